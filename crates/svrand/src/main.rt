@@ -1,0 +1,47 @@
+//! `svrand`, a constrained random value generator for SystemVerilog (IEEE 1800-2017, clause 18).
+//!
+//! It reads a script of classes and `randomize()` calls from its standard input and prints one line for each call.
+//! All that it does is `run`, whose contract says what is written, and with which status it ends, by the words and the text alone.
+#![tactic(auto)]
+
+mod answer;
+mod command;
+mod draw;
+mod run;
+mod status;
+#[cfg(test)]
+mod tests;
+
+use run::run;
+use status::Status;
+use std::alloc::AllocError;
+use std::env;
+use std::io::ErrorKind;
+use std::process::ExitCode;
+use svr_edge::{NullSink, StdSink, StdSource};
+
+/// The words behind the program's name. None where the system does not give them.
+fn words(rt: &HostRuntime) -> Result<Vec<String>, AllocError> {
+    let mut words = Vec::new(rt.alloc());
+    match env::args(rt) {
+        Ok(args) => {
+            for word in args.skip(1) {
+                words.push(word)?;
+            }
+            Ok(words)
+        }
+        Err(error) if error.kind() == ErrorKind::OutOfMemory => Err(AllocError),
+        Err(_) => Ok(words),
+    }
+}
+
+fn main(rt: HostRuntime) -> ExitCode {
+    let Ok(words) = words(&rt) else {
+        return ExitCode::from(Status::NoMemory.code());
+    };
+    let mut src = StdSource::new(rt.stdin());
+    let mut out = StdSink::new(rt.stdout());
+    let mut journal = NullSink::new();
+    let status = run(rt.alloc(), &words, &mut src, &mut out, &mut journal);
+    ExitCode::from(status.code())
+}

@@ -1,0 +1,70 @@
+// The top call.
+ghost use Rattle.std.specs.Prelude.{◌≡◌, ◌≤◌, ◌⊎◌, ℕ, map, IfSome, string_bytes};
+ghost use Rattle.std.specs.Io.KnownBytes.{Appends, Keeps};
+ghost use Rattle.svr_edge.specs.Causes.{Rose};
+ghost use Rattle.svr_edge.specs.Known.{AppendsFront};
+ghost use Rattle.svrand.specs.Outcome.{IsCommand, Sinks, Writes, Reads, text_limit};
+
+use crate::answer::answer_of;
+use crate::command::command;
+use crate::status::Status;
+use std::alloc::Global;
+use svr_edge::{Failed, ReadEnd, Sink, Source, read_text, write_whole};
+
+/// The greatest length of a script, in bytes.
+const TEXT_LIMIT: usize = 4_194_304;
+
+const USAGE: &[u8] =
+    b"usage: svrand run [--seed N] [--budget N] [--size-cap N] [--proofs]\n       svrand load N [--seed N] [--budget N] [--size-cap N] [--proofs]\n";
+
+/// All that the program does.
+///
+/// `words` are the words behind the program's name. The script is read from `src`, all printed text goes to `out`, and the log of each question that was given up to `journal`. The status is the one that the process is to end with.
+pub fn run<S: Source, K: Sink, J: Sink>(
+    alloc: Global,
+    words: &[String],
+    src: &mut S,
+    out: &mut K,
+    journal: &mut J,
+) -> Status
+    // Over a source that tells its text, what is written is what the words and the text say.
+    ensures headline { IfSome (S.left src.old) (λ text.
+        Writes (map (λ w. string_bytes w) words.now) text result
+        (record { out = K.written out.old; journal = J.written journal.old })
+        (record { out = K.written out.new; journal = J.written journal.new })) }
+
+    // Over any source: what the words alone decide, how far the text was read, and each fault's cause.
+    ensures usage { result ≡ Status.Usage → (seed : ℕ) → IsCommand (map (λ w. string_bytes w) words.now) seed → ⊥ }
+    ensures read { Reads result (S.left src.old) (S.left src.new) }
+    ensures read_fault { result ≡ Status.ReadFault → Rose (S.faults src.old) (S.faults src.new) }
+    ensures write_fault { result ≡ Status.WriteFault → Rose (K.faults out.old) (K.faults out.new) ⊎ Rose (J.faults journal.old) (J.faults journal.new) }
+    ensures source_faults { S.faults src.old ≤ S.faults src.new }
+    ensures out_faults { K.faults out.old ≤ K.faults out.new }
+    ensures journal_faults { J.faults journal.old ≤ J.faults journal.new }
+{
+    let Some(seed) = command(words) else {
+        return finish(out, USAGE, Status::Usage);
+    };
+    let text = match read_text(alloc, src, TEXT_LIMIT) {
+        Ok(text) => text,
+        Err(ReadEnd::TooLong) => return finish(out, b"refused 0:0 27\n", Status::Refused),
+        Err(ReadEnd::Failed) => return Status::ReadFault,
+        Err(ReadEnd::NoMemory) => return Status::NoMemory,
+    };
+    let Ok(answer) = answer_of(alloc, seed, &text) else {
+        return Status::NoMemory;
+    };
+    finish(out, &answer.text, answer.status)
+}
+
+// The status, once all is written.
+fn finish<K: Sink>(out: &mut K, bytes: &[u8], status: Status) -> Status
+    ensures ends { ((result ≡ status) × Appends (K.written out.old) (K.written out.new) bytes.now)
+        ⊎ ((result ≡ Status.WriteFault) × AppendsFront (K.written out.old) (K.written out.new) bytes.now × Rose (K.faults out.old) (K.faults out.new)) }
+    ensures faults { K.faults out.old ≤ K.faults out.new }
+{
+    match write_whole(out, bytes) {
+        Ok(()) => status,
+        Err(Failed) => Status::WriteFault,
+    }
+}
