@@ -1,1 +1,4 @@
 pub mod ValuationLemmas
+pub mod Sound
+pub mod Same
+pub mod Indexed
