@@ -1,0 +1,9 @@
+pub mod TableLemmas
+pub mod Quiet
+pub mod Grown
+pub mod Pending
+pub mod Levels
+pub mod Chains
+pub mod Asserting
+pub mod Reasons
+pub mod SameSearch
