@@ -1,0 +1,5 @@
+pub mod DeclTree
+pub mod ExprTree
+pub mod ItemTree
+pub mod ScriptTree
+pub mod StmtTree
