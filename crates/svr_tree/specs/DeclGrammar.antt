@@ -1,5 +1,5 @@
 -- Types, classes and variables: what they spell, which may stand under which, how high their expressions are (IEEE 1800-2017, A.1.9, A.1.10 and A.2).
-use Rattle.std.specs.Prelude.{◌≡◌, ℕ, max, Bool, true, false, List, [], ◌∷◌, ◌++◌, Option, Some, None}
+use Rattle.std.specs.Prelude.{ℕ, max, List, [], ◌∷◌, ◌++◌, Option, Some, None}
 use Rattle.svr_token.specs.declared.Word.{Word}
 use Rattle.svr_token.specs.declared.Word.TheVariants as w
 use Rattle.svr_token.specs.declared.Mark.TheVariants as m
@@ -12,7 +12,7 @@ use Rattle.svr_tree.specs.declared.decl.AtomKind.TheVariants as atom_kind
 use Rattle.svr_tree.specs.declared.decl.Signing.{Signing}
 use Rattle.svr_tree.specs.declared.decl.Signing.TheVariants as signing
 use Rattle.svr_tree.specs.ExprTree.{ExprTree}
-use Rattle.svr_tree.specs.DeclTree.{PackedRangeTree, IntegerTypeTree, vector, atom, DataTypeTree, integer, named, MemberTree, EnumTree, DefinitionTree, enum, plain, TypeTree, DimensionTree, dynamic, queue, size, bounds, DeclaratorTree, PropertyTree, BlockTree, ClassItemTree, property, block, ClassTree, VarInitTree, value, new, VarDeclaratorTree, VarTree}
+use Rattle.svr_tree.specs.DeclTree.{PackedRangeTree, IntegerTypeTree, vector, atom, DataTypeTree, integer, named, MemberTree, DefinitionTree, enum, plain, TypeTree, DimensionTree, dynamic, queue, size, bounds, DeclaratorTree, PropertyTree, BlockTree, ClassItemTree, property, block, ClassTree, VarInitTree, value, new, VarDeclaratorTree, VarTree}
 use Rattle.svr_tree.specs.Tokens.{Entry, Name, word, word_on, mark, mark_on, run, listed, Each, OneOrMore}
 use Rattle.svr_tree.specs.ExprGrammar.{parens_spelling, expr_spelling, IsExpr, expr_height}
 use Rattle.svr_tree.specs.ItemGrammar.{items_spelling, AreBlockItems, items_height}

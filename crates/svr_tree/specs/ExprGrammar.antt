@@ -8,7 +8,7 @@ use Rattle.svr_token.specs.declared.SystemName.TheVariants as system
 use Rattle.svr_tree.specs.declared.expr.Scope.{Scope}
 use Rattle.svr_tree.specs.declared.expr.Scope.TheVariants as scope
 use Rattle.svr_tree.specs.ExprTree.{ExprTree, number, path, bit_select, part_select, unary, binary, choice, inside, join, copies, sign, paren, ExprTrees, no_exprs, more_exprs, RangeTree, one, span, RangeTrees, no_ranges, more_ranges, BoundTree, value, dollar}
-use Rattle.svr_tree.specs.Tokens.{Entry, On, Any, Name, word, word_on, mark, mark_on}
+use Rattle.svr_tree.specs.Tokens.{Entry, On, Name, word, word_on, mark, mark_on}
 use Rattle.svr_tree.specs.Operators.{unary_mark, binary_mark, precedence, least_left, least_right}
 
 -- ---- what a tree spells

@@ -7,7 +7,7 @@ use Rattle.svr_typed.specs.declared.Share.TheVariants as share
 use Rattle.svr_typed.specs.declared.BinOp.TheVariants as b
 use Rattle.svr_tree.specs.ExprTree.{ExprTree, binary, ExprTrees, no_exprs, more_exprs}
 use Rattle.svr_tree.specs.ItemTree.{DistItemTree, DistTree, ItemTree, plain, unique, implies, branch, foreach, disable, solve, ItemTrees, no_items, more_items, SetTree, set, ElseTree, no_else, else_set}
-use Rattle.svr_tree.specs.Tokens.{Entry, Name, word, word_on, mark, mark_on, listed, OneOrMore}
+use Rattle.svr_tree.specs.Tokens.{Entry, Name, word, word_on, mark, listed, OneOrMore}
 use Rattle.svr_tree.specs.ExprGrammar.{expr_spelling, exprs_spelling, range_spelling, level, start, is_path, is_member, is_braced, IsExpr, IsRange, expr_height, exprs_height, range_height}
 
 -- ---- what a tree spells

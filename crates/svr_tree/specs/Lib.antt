@@ -1,5 +1,6 @@
 pub mod DeclGrammar
 pub mod DeclTree
+pub mod Examples
 pub mod ExprGrammar
 pub mod ExprTree
 pub mod ItemGrammar

@@ -1,5 +1,5 @@
 -- Scripts: what they spell, which may be, how high they are (IEEE 1800-2017, A.1.2).
-use Rattle.std.specs.Prelude.{◌≡◌, ℕ, max, Bool, List, [], ◌∷◌, ◌++◌}
+use Rattle.std.specs.Prelude.{ℕ, max, List, [], ◌∷◌, ◌++◌}
 use Rattle.svr_token.specs.declared.Word.{Word}
 use Rattle.svr_token.specs.declared.Word.TheVariants as w
 use Rattle.svr_token.specs.declared.Mark.TheVariants as m

@@ -1,5 +1,5 @@
 -- Statements: what they spell, which may stand under which, how high they are (IEEE 1800-2017, A.6 and A.8.2).
-use Rattle.std.specs.Prelude.{◌≡◌, ℕ, ◌+◌, max, Bool, true, false, List, [], ◌∷◌, ◌++◌, Option, Some, None}
+use Rattle.std.specs.Prelude.{◌≡◌, ℕ, ◌+◌, max, true, List, [], ◌∷◌, ◌++◌, Option, Some, None}
 use Rattle.svr_token.specs.declared.Lexeme.TheVariants as lexeme
 use Rattle.svr_token.specs.declared.Word.TheVariants as w
 use Rattle.svr_token.specs.declared.Mark.TheVariants as m
@@ -11,7 +11,7 @@ use Rattle.svr_tree.specs.declared.stmt.ModeKind.{ModeKind}
 use Rattle.svr_tree.specs.declared.stmt.ModeKind.TheVariants as mode_kind
 use Rattle.svr_tree.specs.declared.stmt.CallForm.{CallForm}
 use Rattle.svr_tree.specs.declared.stmt.CallForm.TheVariants as form
-use Rattle.svr_tree.specs.ExprTree.{ExprTree, path, ExprTrees, no_exprs, more_exprs}
+use Rattle.svr_tree.specs.ExprTree.{ExprTree, path}
 use Rattle.svr_tree.specs.ItemTree.{ItemTrees}
 use Rattle.svr_tree.specs.StmtTree.{RandomizeTree, ModeTree, RightTree, value, new, new_array, pattern, answer, StmtTree, empty, block, repeat, assign, call, mode, StmtTrees, no_stmts, more_stmts}
 use Rattle.svr_tree.specs.Tokens.{Entry, Any, Name, OtherName, word, word_on, mark, mark_on, names_listed}

@@ -4,6 +4,7 @@
 #![tactic(auto)]
 
 mod decl;
+pub mod examples;
 mod expr;
 mod item;
 mod script;
