@@ -9,6 +9,8 @@ mod item;
 mod memory;
 mod operator;
 mod stmt;
+#[cfg(test)]
+mod tests;
 mod text;
 
 pub use class::{ArrayKind, EnumMember, EnumType, FlatClass, NumType, Prop, Rand, TBlock, TClass};
