@@ -41,8 +41,9 @@ pub fn items_have_the_implication()
     ensures equivalence { ReadsItem example.equivalence_item example.equivalence }
 {}
 
-/// `a inside {1} * 2` is spelled by a tree whose left operand has too low a level.
+/// No expression reads `a inside {1} * 2`. The one tree that spells it has a left operand of too low a level.
 pub fn inside_is_no_factor()
+    ensures none { (e : ExprTree) → ReadsExpr e example.inside_times → ⊥ }
     ensures spells { Takes example.inside_times (expr_spelling example.inside_times_tree) [] }
     ensures level { IsExpr example.inside_times_tree → ⊥ }
 {}

@@ -9,6 +9,8 @@ mod expr;
 mod item;
 mod script;
 mod stmt;
+#[cfg(test)]
+mod tests;
 
 pub use decl::{
     AtomKind, ClassDecl, ClassItem, ConstraintBlock, DataType, Declarator, Dimension, EnumDecl,
