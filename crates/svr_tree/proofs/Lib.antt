@@ -1,0 +1,4 @@
+pub mod Fitting
+pub mod Heights
+pub mod NoFactor
+pub mod Selects

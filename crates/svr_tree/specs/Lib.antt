@@ -1,0 +1,14 @@
+pub mod DeclGrammar
+pub mod DeclTree
+pub mod Examples
+pub mod ExprGrammar
+pub mod ExprTree
+pub mod ItemGrammar
+pub mod ItemTree
+pub mod Operators
+pub mod Reading
+pub mod ScriptGrammar
+pub mod ScriptTree
+pub mod StmtGrammar
+pub mod StmtTree
+pub mod Tokens

@@ -1,0 +1,279 @@
+// Expressions (IEEE 1800-2017, A.8).
+
+ghost use Rattle.std.specs.Prelude.{◌≡◌, IfOk};
+ghost use Rattle.svr_tree.specs.ExprTree as tree;
+ghost use Rattle.svr_tree.specs.ExprTree.{expr_tree, range_tree, bound_tree, expr_trees, range_trees};
+
+use sqlite_items::{Boxed, Items};
+use std::alloc::Global;
+use svr_typed::{BinOp, NoMemory, UnOp};
+
+/// Where a path looks for its first name: by the common rules, or behind `local::` or `this.` (IEEE 1800-2017, 18.7.1 and 8.11).
+#[derive(Clone, Copy, Debug, PartialEq, Eq)]
+pub enum Scope {
+    Plain,
+    Local,
+    This,
+}
+
+/// An expression.
+#[cycle(expr)]
+#[derive(Drop)]
+pub enum Expr {
+    /// A literal: its value, its width in bits, its sign. The width 0 stands for `'0` and `'1`, whose value is 0 or 1.
+    Number {
+        at: u32,
+        value: u64,
+        width: u8,
+        signed: bool,
+    },
+    /// A path of names. `call`: with `()` behind it.
+    Path {
+        at: u32,
+        scope: Scope,
+        names: Items<u32>,
+        call: bool,
+    },
+    /// `base[first]` or `base[first:last]`. `call`: with `()` behind it.
+    Select {
+        at: u32,
+        base: Boxed<Expr>,
+        first: Boxed<Expr>,
+        last: Option<Boxed<Expr>>,
+        call: bool,
+    },
+    Unary {
+        at: u32,
+        op: UnOp,
+        arg: Boxed<Expr>,
+    },
+    Binary {
+        at: u32,
+        op: BinOp,
+        left: Boxed<Expr>,
+        right: Boxed<Expr>,
+    },
+    /// `test ? yes : no`
+    Choice {
+        at: u32,
+        test: Boxed<Expr>,
+        yes: Boxed<Expr>,
+        no: Boxed<Expr>,
+    },
+    /// `left inside { set }`
+    Inside {
+        at: u32,
+        left: Boxed<Expr>,
+        set: Items<Range>,
+    },
+    /// `{ parts }`
+    Join {
+        at: u32,
+        parts: Items<Expr>,
+    },
+    /// `{ count { parts } }`
+    Copies {
+        at: u32,
+        count: Boxed<Expr>,
+        parts: Items<Expr>,
+    },
+    /// `$signed(arg)` or `$unsigned(arg)`
+    Sign {
+        at: u32,
+        signed: bool,
+        arg: Boxed<Expr>,
+    },
+    /// `(arg)`
+    Paren {
+        at: u32,
+        arg: Boxed<Expr>,
+    },
+}
+
+/// A member of a set: `value` or `[low:high]`.
+#[cycle(expr)]
+#[derive(Drop)]
+pub enum Range {
+    One(Expr),
+    Span(Bound, Bound),
+}
+
+/// A bound of a range. `Dollar` is `$`.
+#[cycle(expr)]
+#[derive(Drop)]
+pub enum Bound {
+    Value(Expr),
+    Dollar,
+}
+
+impl Expr {
+    pub fn number(at: u32, value: u64, width: u8, signed: bool) -> Expr
+        ensures { expr_tree result ≡ tree.number at value width signed }
+    {
+        Expr::Number {
+            at,
+            value,
+            width,
+            signed,
+        }
+    }
+
+    pub fn path(at: u32, scope: Scope, names: Items<u32>, call: bool) -> Expr
+        ensures { expr_tree result ≡ tree.path at scope names call }
+    {
+        Expr::Path {
+            at,
+            scope,
+            names,
+            call,
+        }
+    }
+
+    pub fn bit_select(
+        alloc: Global,
+        at: u32,
+        base: Expr,
+        index: Expr,
+        call: bool,
+    ) -> Result<Expr, NoMemory>
+        ensures { IfOk result (λ e. expr_tree e ≡ tree.bit_select at (expr_tree base) (expr_tree index) call) }
+    {
+        Ok(Expr::Select {
+            at,
+            base: Boxed::new(alloc, base)?,
+            first: Boxed::new(alloc, index)?,
+            last: None,
+            call,
+        })
+    }
+
+    pub fn part_select(
+        alloc: Global,
+        at: u32,
+        base: Expr,
+        first: Expr,
+        last: Expr,
+        call: bool,
+    ) -> Result<Expr, NoMemory>
+        ensures { IfOk result (λ e. expr_tree e ≡ tree.part_select at (expr_tree base) (expr_tree first) (expr_tree last) call) }
+    {
+        Ok(Expr::Select {
+            at,
+            base: Boxed::new(alloc, base)?,
+            first: Boxed::new(alloc, first)?,
+            last: Some(Boxed::new(alloc, last)?),
+            call,
+        })
+    }
+
+    pub fn unary(alloc: Global, at: u32, op: UnOp, arg: Expr) -> Result<Expr, NoMemory>
+        ensures { IfOk result (λ e. expr_tree e ≡ tree.unary at op (expr_tree arg)) }
+    {
+        Ok(Expr::Unary {
+            at,
+            op,
+            arg: Boxed::new(alloc, arg)?,
+        })
+    }
+
+    pub fn binary(
+        alloc: Global,
+        at: u32,
+        op: BinOp,
+        left: Expr,
+        right: Expr,
+    ) -> Result<Expr, NoMemory>
+        ensures { IfOk result (λ e. expr_tree e ≡ tree.binary at op (expr_tree left) (expr_tree right)) }
+    {
+        Ok(Expr::Binary {
+            at,
+            op,
+            left: Boxed::new(alloc, left)?,
+            right: Boxed::new(alloc, right)?,
+        })
+    }
+
+    pub fn choice(alloc: Global, at: u32, test: Expr, yes: Expr, no: Expr) -> Result<Expr, NoMemory>
+        ensures { IfOk result (λ e. expr_tree e ≡ tree.choice at (expr_tree test) (expr_tree yes) (expr_tree no)) }
+    {
+        Ok(Expr::Choice {
+            at,
+            test: Boxed::new(alloc, test)?,
+            yes: Boxed::new(alloc, yes)?,
+            no: Boxed::new(alloc, no)?,
+        })
+    }
+
+    pub fn inside(alloc: Global, at: u32, left: Expr, set: Items<Range>) -> Result<Expr, NoMemory>
+        ensures { IfOk result (λ e. expr_tree e ≡ tree.inside at (expr_tree left) (range_trees set)) }
+    {
+        Ok(Expr::Inside {
+            at,
+            left: Boxed::new(alloc, left)?,
+            set,
+        })
+    }
+
+    pub fn join(at: u32, parts: Items<Expr>) -> Expr
+        ensures { expr_tree result ≡ tree.join at (expr_trees parts) }
+    {
+        Expr::Join { at, parts }
+    }
+
+    pub fn copies(alloc: Global, at: u32, count: Expr, parts: Items<Expr>) -> Result<Expr, NoMemory>
+        ensures { IfOk result (λ e. expr_tree e ≡ tree.copies at (expr_tree count) (expr_trees parts)) }
+    {
+        Ok(Expr::Copies {
+            at,
+            count: Boxed::new(alloc, count)?,
+            parts,
+        })
+    }
+
+    pub fn sign(alloc: Global, at: u32, signed: bool, arg: Expr) -> Result<Expr, NoMemory>
+        ensures { IfOk result (λ e. expr_tree e ≡ tree.sign at signed (expr_tree arg)) }
+    {
+        Ok(Expr::Sign {
+            at,
+            signed,
+            arg: Boxed::new(alloc, arg)?,
+        })
+    }
+
+    pub fn paren(alloc: Global, at: u32, arg: Expr) -> Result<Expr, NoMemory>
+        ensures { IfOk result (λ e. expr_tree e ≡ tree.paren at (expr_tree arg)) }
+    {
+        Ok(Expr::Paren {
+            at,
+            arg: Boxed::new(alloc, arg)?,
+        })
+    }
+}
+
+impl Range {
+    pub fn one(value: Expr) -> Range
+        ensures { range_tree result ≡ tree.one (expr_tree value) }
+    {
+        Range::One(value)
+    }
+
+    pub fn span(low: Bound, high: Bound) -> Range
+        ensures { range_tree result ≡ tree.span (bound_tree low) (bound_tree high) }
+    {
+        Range::Span(low, high)
+    }
+}
+
+impl Bound {
+    pub fn value(value: Expr) -> Bound
+        ensures { bound_tree result ≡ tree.value (expr_tree value) }
+    {
+        Bound::Value(value)
+    }
+
+    pub fn dollar() -> Bound
+        ensures { bound_tree result ≡ tree.dollar }
+    {
+        Bound::Dollar
+    }
+}

@@ -1,0 +1,47 @@
+// With ample memory each tree is made.
+
+use crate::{BinOp, NoMemory, TExpr, TNode, TRange, TStmt, Text, UnOp};
+use sqlite_items::Items;
+use std::process::Abort;
+use std::test::Fail;
+
+fn number(value: u64) -> TExpr {
+    TExpr::new(32, true, TNode::number(value, false))
+}
+
+fn is_made(rt: &impl Abort, node: Result<TNode, NoMemory>) {
+    assert!(rt; node.is_ok());
+}
+
+#[test]
+fn nodes_are_made(rt: HostRuntime) {
+    let alloc = rt.alloc();
+    is_made(&rt, TNode::element(alloc, 0, number(1)));
+    is_made(&rt, TNode::of_object(alloc, 0, number(1)));
+    is_made(&rt, TNode::bit_select(alloc, number(1), number(2), 0));
+    is_made(
+        &rt,
+        TNode::part_select(alloc, number(1), number(2), number(3), 0),
+    );
+    is_made(&rt, TNode::unary(alloc, UnOp::Minus, number(1)));
+    is_made(&rt, TNode::binary(alloc, BinOp::Add, number(1), number(2)));
+    is_made(&rt, TNode::choice(alloc, number(1), number(2), number(3)));
+    is_made(
+        &rt,
+        TNode::inside(alloc, number(1), Items::<TRange>::new(alloc)),
+    );
+    is_made(
+        &rt,
+        TNode::copies(alloc, number(1), Items::<TExpr>::new(alloc)),
+    );
+    is_made(&rt, TNode::sign(alloc, true, number(1)));
+    assert!(rt; TStmt::repeat(alloc, 3, TStmt::make(0)).is_ok());
+}
+
+#[test]
+fn text_keeps_its_bytes(rt: HostRuntime) -> Result<(), Fail> {
+    let text = Text::from_vec(b"lo_1".to_vec(rt.alloc())?);
+    assert_eq!(rt; text.as_bytes(), b"lo_1".as_slice());
+    assert_eq!(rt; text.into_vec().as_slice(), b"lo_1".as_slice());
+    Ok(())
+}
