@@ -82,7 +82,7 @@ starts_name [] = false
 starts_name (b ∷ bs) = is_name_start b
 
 -- the bytes begin as a literal does
-abbrev second_of_literal : List ℕ → Bool
+abbrev pub second_of_literal : List ℕ → Bool
 second_of_literal [] = false
 second_of_literal (b ∷ bs) = is_name_byte b
 

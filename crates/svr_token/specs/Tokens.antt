@@ -23,11 +23,11 @@ pub record IsToken (token : Token) (sort : Kind) (place size : ℕ) : Type 0 whe
 -- From the place `at`, where `text` begins, to the place `end`, where `rest` begins, stand gaps and
 -- longest lexemes in turn. The tokens are the lexemes. No fault stands where one of them begins.
 pub data Tokenizes : (at : ℕ) (text : List ℕ) (tokens : List Token) (end : ℕ) (rest : List ℕ) → Type 0 where
-  nothing : {at : ℕ} {text : List ℕ} → Tokenizes at text [] at text
-  gap : {at : ℕ} {text : List ℕ} {tokens : List Token} {end : ℕ} {rest : List ℕ} (space behind : List ℕ)
+  done : {at : ℕ} {text : List ℕ} → Tokenizes at text [] at text
+  past_gap : {at : ℕ} {text : List ℕ} {tokens : List Token} {end : ℕ} {rest : List ℕ} (space behind : List ℕ)
       → IsSound text → BeginsWithGap text space behind
       → Tokenizes (at + length space) behind tokens end rest → Tokenizes at text tokens end rest
-  lexeme : {at : ℕ} {text : List ℕ} {tokens : List Token} {end : ℕ} {rest : List ℕ} (token : Token) (kind : Kind) (bytes behind : List ℕ)
+  past_lexeme : {at : ℕ} {text : List ℕ} {tokens : List Token} {end : ℕ} {rest : List ℕ} (token : Token) (kind : Kind) (bytes behind : List ℕ)
       → IsSound text → BeginsWithLexeme text kind bytes behind → IsToken token kind at (length bytes)
       → Tokenizes (at + length bytes) behind tokens end rest → Tokenizes at text (token ∷ tokens) end rest
 
