@@ -1,17 +1,12 @@
 -- Comments.
-use Rattle.std.proofs.Common.{◌≡◌, ◌≢◌, ◌≤◌, ◌<◌, ℕ, zero, suc, ◌+◌, ◌-◌, List, [], ◌∷◌, ◌++◌, length, take, drop, Bool, true, false, refl, sym, ap, ◌∙◌, subst, arith, codes, slice_index, append_assoc, append-nil, length-append, length-take-le, inl, inr, ◌⊎◌}
-use Rattle.std.proofs.lemmas.Bool.Decides.{nat_tests}
-use Rattle.std.specs.List.{list_all}
-use Rattle.svr_token.specs.Bytes.{is_blank, is_within_line, Stops, Splits}
-use Rattle.svr_token.specs.Spellings.{mark_text}
-use Rattle.svr_token.specs.Lexemes.{IsLexeme}
-use Rattle.svr_token.specs.Gaps.{BeginsWithGap, IsBlank, IsLineComment, IsBlockComment}
-use Rattle.svr_token.specs.Faults.{BeginsNothing, IsOpenComment, IsSound, IsBadByte, HasLowestFault, Fault, HasFault, number_of_fault, open_comment, bad_byte, bad_literal, literal_too_wide}
+use Rattle.std.proofs.Common.{◌≡◌, ◌≢◌, ◌<◌, ℕ, zero, suc, ◌+◌, List, [], ◌∷◌, ◌++◌, length, take, drop, refl, sym, ap, ◌∙◌, subst, arith, slice_index, append_assoc, length-append, length-take-le, inl, inr}
+use Rattle.svr_token.specs.Bytes.{is_within_line, Stops, Splits}
+use Rattle.svr_token.specs.Gaps.{BeginsWithGap}
+use Rattle.svr_token.specs.Faults.{BeginsNothing, IsOpenComment, IsSound, HasLowestFault, Fault, HasFault, number_of_fault, open_comment, bad_byte, bad_literal, literal_too_wide}
 use Rattle.svr_token.specs.declared.token.Kind.TheVariants as k
 use Rattle.svr_token.specs.declared.lexeme.Mark.TheVariants as m
-use Rattle.svr_token.proofs.Splitting.{split_one}
 use Rattle.svr_lex.specs.Fronts.{EndsComment}
-use Rattle.svr_lex.proofs.Firsts.{no_literal_at, sound_without_literal, unknown_byte, comment_byte, no_bad_byte}
+use Rattle.svr_lex.proofs.Firsts.{no_literal_at, sound_without_literal, unknown_byte, no_bad_byte}
 
 -- a pair of bytes behind a front
 pair_at : (front back : List ℕ) (a b : ℕ) → (slice_index (front ++ (a ∷ (b ∷ back))) (length front) ≡ a) × (slice_index (front ++ (a ∷ (b ∷ back))) (length front + 1) ≡ b)

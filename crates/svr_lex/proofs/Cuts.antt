@@ -1,7 +1,7 @@
 -- The pieces as the code cuts them off, by their length.
-use Rattle.std.proofs.Common.{◌≡◌, ◌≤◌, ℕ, suc, ◌+◌, ◌-◌, List, [], ◌∷◌, ◌++◌, length, take, drop, false, refl, sym, ap, ◌∙◌, subst, arith, append_assoc, length-append}
+use Rattle.std.proofs.Common.{◌≡◌, ℕ, ◌+◌, ◌-◌, List, [], ◌∷◌, ◌++◌, length, take, drop, sym, ap, ◌∙◌, arith, append_assoc, length-append}
 use Rattle.std.proofs.lemmas.List.{take_at, drop_at}
-use Rattle.svr_token.specs.Bytes.{is_blank, is_within_line, is_name_byte, is_name_start, Stops, Splits}
+use Rattle.svr_token.specs.Bytes.{is_within_line, is_name_byte, is_name_start, Stops, Splits}
 use Rattle.svr_token.specs.Lexemes.{IsLexeme, Literal, HasZeroSize, IsOverWide}
 use Rattle.svr_token.specs.Gaps.{BeginsWithGap}
 use Rattle.svr_token.specs.Faults.{IsSound, HasLowestFault, bad_byte}

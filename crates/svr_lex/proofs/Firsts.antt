@@ -1,12 +1,12 @@
 -- What the first byte of a text says of what begins there.
-use Rattle.std.proofs.Common.{◌≡◌, ◌≤◌, ◌<◌, ℕ, List, [], ◌∷◌, ◌++◌, length, Bool, true, false, ◌||◌, ◌&&◌, ◌==◌, ◌⊎◌, inl, inr, refl, sym, ap, ◌∙◌, subst, arith, codes, append-nil}
+use Rattle.std.proofs.Common.{◌≡◌, ℕ, List, [], ◌∷◌, ◌++◌, Bool, true, false, ◌||◌, ◌&&◌, ◌==◌, ◌⊎◌, inl, inr, refl, sym, ap, ◌∙◌, subst, arith}
 use Rattle.std.proofs.lemmas.Bool.Decides.{nat_tests}
 use Rattle.std.specs.Char.{is_digit}
-use Rattle.svr_token.specs.Bytes.{is_blank, is_name_start, is_name_byte, Stops}
-use Rattle.svr_token.specs.Spellings.{mark_text, system_text}
-use Rattle.svr_token.specs.Lexemes.{IsName, IsSize, IsLexeme, Literal, decimal, Writes}
+use Rattle.svr_token.specs.Bytes.{is_blank, is_name_start}
+use Rattle.svr_token.specs.Spellings.{system_text}
+use Rattle.svr_token.specs.Lexemes.{IsName, IsSize, Literal, decimal, Writes}
 use Rattle.svr_token.specs.Gaps.{BeginsWithGap, IsBlank, IsLineComment, IsBlockComment}
-use Rattle.svr_token.specs.Faults.{BeginsWithHead, BeginsWithLiteral, BeginsNothing, BeginsUnknownSystemName, IsBadByte, IsOpenComment, LacksDigit, IsBadLiteral, IsTooWide, IsIllFormed, Fault, bad_byte, open_comment, bad_literal, literal_too_wide, HasFault, IsSound}
+use Rattle.svr_token.specs.Faults.{BeginsWithHead, BeginsNothing, BeginsUnknownSystemName, IsBadByte, IsOpenComment, IsBadLiteral, IsTooWide, bad_byte, open_comment, bad_literal, literal_too_wide, IsSound}
 use Rattle.svr_token.specs.Literals.{HasNoLiteral}
 use Rattle.svr_token.specs.declared.radix.Radix.{Radix}
 use Rattle.svr_token.specs.declared.lexeme.SystemName.{SystemName}

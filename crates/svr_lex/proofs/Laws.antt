@@ -1,13 +1,12 @@
 -- A text is tokenized in one way at most.
-use Rattle.std.proofs.Common.{◌≡◌, ◌≢◌, ◌≤◌, ◌<◌, ℕ, zero, suc, ◌+◌, List, [], ◌∷◌, ◌++◌, length, take, drop, Bool, true, false, ◌⊎◌, inl, inr, refl, sym, ap, ◌∙◌, subst, arith, codes, append_assoc, append-nil, length-append, None, Some, Result, Ok, Err}
+use Rattle.std.proofs.Common.{◌≡◌, ◌≤◌, ◌<◌, ℕ, zero, suc, ◌+◌, List, [], ◌∷◌, ◌++◌, length, take, drop, true, false, ◌⊎◌, inl, inr, refl, sym, ap, ◌∙◌, subst, arith, append_assoc, append-nil, length-append}
 use Rattle.std.proofs.lemmas.List.{take_at, drop_at}
-use Rattle.std.specs.Prelude.{MatchResult, IfOk, IfErr}
-use Rattle.svr_token.specs.Bytes.{is_blank, is_within_line, Stops}
+use Rattle.svr_token.specs.Bytes.{is_blank, is_within_line}
 use Rattle.svr_token.specs.Spellings.{mark_text, system_text}
 use Rattle.svr_token.specs.Tables.{mark_of}
-use Rattle.svr_token.specs.Lexemes.{IsName, IsLexeme, Literal}
+use Rattle.svr_token.specs.Lexemes.{IsLexeme, Literal}
 use Rattle.svr_token.specs.Gaps.{BeginsWithGap, IsBlank, IsLineComment, IsBlockComment}
-use Rattle.svr_token.specs.Faults.{Fault, bad_byte, open_comment, bad_literal, literal_too_wide, number_of_fault, HasFault, IsSound, HasLowestFault, IsIllFormed, BeginsWithLiteral}
+use Rattle.svr_token.specs.Faults.{Fault, bad_byte, open_comment, bad_literal, literal_too_wide, HasFault, IsSound, HasLowestFault, BeginsWithLiteral}
 use Rattle.svr_token.specs.Tokens.{BeginsWithLexeme, IsToken, Tokenizes, done, past_gap, past_lexeme, IsTokenized, IsFirstFault}
 use Rattle.svr_token.specs.declared.token.Kind.{Kind}
 use Rattle.svr_token.specs.declared.token.Kind.TheVariants as k

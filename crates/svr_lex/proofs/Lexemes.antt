@@ -1,5 +1,5 @@
 -- The longest lexeme that a text begins with, or a fault.
-use Rattle.std.proofs.Common.{◌≡◌, ◌≢◌, ◌≤◌, ◌<◌, ℕ, suc, ◌+◌, List, [], ◌∷◌, ◌++◌, length, Bool, true, false, ◌||◌, ◌==◌, ◌⊎◌, inl, inr, refl, sym, ap, ◌∙◌, subst, arith, codes, append_assoc, append-nil, length-append, take, drop}
+use Rattle.std.proofs.Common.{◌≡◌, ◌≢◌, ◌≤◌, ◌<◌, ℕ, suc, ◌+◌, List, [], ◌∷◌, ◌++◌, length, Bool, true, false, ◌==◌, ◌⊎◌, inl, inr, refl, sym, ap, ◌∙◌, subst, arith, codes, append-nil, length-append, take, drop}
 use Rattle.std.proofs.lemmas.Bool.Decides.{nat_tests}
 use Rattle.std.proofs.lemmas.List.{take_at, drop_at}
 use Rattle.std.specs.List.{list_all}
@@ -8,7 +8,7 @@ use Rattle.svr_token.specs.Bytes.{is_blank, is_name_start, is_name_byte, Stops, 
 use Rattle.svr_token.specs.Spellings.{mark_text, system_text}
 use Rattle.svr_token.specs.Lexemes.{IsName, IsLexeme, Literal, decimal, Writes, HasZeroSize, IsOverWide}
 use Rattle.svr_token.specs.Gaps.{BeginsWithGap, IsBlank, IsLineComment, IsBlockComment}
-use Rattle.svr_token.specs.Faults.{BeginsWithLiteral, BeginsNothing, BeginsUnknownSystemName, IsBadByte, IsOpenComment, LacksDigit, IsBadLiteral, IsTooWide, IsIllFormed, Fault, bad_byte, open_comment, bad_literal, literal_too_wide, number_of_fault, HasFault, IsSound, HasLowestFault}
+use Rattle.svr_token.specs.Faults.{BeginsWithLiteral, BeginsNothing, BeginsUnknownSystemName, IsBadByte, IsOpenComment, LacksDigit, IsBadLiteral, IsTooWide, Fault, bad_byte, open_comment, bad_literal, literal_too_wide, number_of_fault, HasFault, IsSound, HasLowestFault}
 use Rattle.svr_token.specs.Literals.{HasLiteral, HasNoLiteral}
 use Rattle.svr_token.specs.Tokens.{BeginsWithLexeme}
 use Rattle.svr_token.specs.declared.token.Kind.{Kind}
@@ -20,9 +20,9 @@ use Rattle.svr_token.specs.declared.lexeme.SystemName.TheVariants as s
 use Rattle.svr_token.proofs.Splitting.{split_one, split_most, and_right}
 use Rattle.svr_token.proofs.Fixed.{starts_literal}
 use Rattle.svr_token.proofs.Exact.{literal_one, literal_starts}
-use Rattle.svr_lex.specs.Fronts.{StartsOther, MarkOrNothing, BeginsWithMark, HasMark}
+use Rattle.svr_lex.specs.Fronts.{StartsOther, MarkOrNothing, BeginsWithMark}
 use Rattle.svr_lex.proofs.Marks.{mark_sizes, mark_not_digit, mark_not_start, quote_mark_short, dollar_mark_short, first_byte_mark}
-use Rattle.svr_lex.proofs.Firsts.{may_start_literal, literal_byte, no_literal_at, unknown_byte, comment_byte, gap_byte, name_byte, system_byte, sound_from, no_bad_byte, no_bad_literal, no_too_wide, sound_without_literal, or_cases, quote_is, may_start_begins, head_byte}
+use Rattle.svr_lex.proofs.Firsts.{may_start_literal, literal_byte, no_literal_at, unknown_byte, comment_byte, gap_byte, name_byte, system_byte, sound_from, no_bad_byte, sound_without_literal, or_cases, quote_is, may_start_begins, head_byte}
 
 -- NAMES
 

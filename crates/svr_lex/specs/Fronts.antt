@@ -1,5 +1,5 @@
 -- What a text begins with, as the code holds it.
-use Rattle.std.specs.Prelude.{◌≡◌, ◌≢◌, ◌≤◌, ◌<◌, ℕ, List, [], ◌∷◌, ◌++◌, length, codes, false}
+use Rattle.std.specs.Prelude.{◌≡◌, ◌≢◌, ◌≤◌, ℕ, List, [], ◌∷◌, ◌++◌, length, codes, false}
 use Rattle.svr_token.specs.Bytes.{is_blank, is_name_start}
 use Rattle.svr_token.specs.Spellings.{mark_text, system_text}
 use Rattle.svr_token.specs.Lexemes.{IsName, IsLexeme}
@@ -7,7 +7,6 @@ use Rattle.svr_token.specs.Gaps.{BeginsWithGap}
 use Rattle.svr_token.specs.Faults.{HasLowestFault, IsSound, IsOpenComment, BeginsUnknownSystemName}
 use Rattle.svr_token.specs.Literals.{HasNoLiteral}
 use Rattle.svr_token.specs.Tokens.{BeginsWithLexeme}
-use Rattle.svr_token.specs.declared.token.Kind.{Kind}
 use Rattle.svr_token.specs.declared.token.Kind.TheVariants as k
 use Rattle.svr_token.specs.declared.lexeme.Mark.{Mark}
 use Rattle.svr_token.specs.declared.lexeme.SystemName.{SystemName}

@@ -1,5 +1,5 @@
 -- The answers of the lexer.
-use Rattle.std.specs.Prelude.{◌≡◌, ◌⊎◌, ℕ, List}
+use Rattle.std.specs.Prelude.{ℕ, List}
 use Rattle.svr_token.specs.Faults.{Fault, bad_byte, open_comment, bad_literal, literal_too_wide}
 use Rattle.svr_token.specs.Tokens.{IsFirstFault}
 use Rattle.svr_lex.specs.declared.fault.LexFault.{LexFault}

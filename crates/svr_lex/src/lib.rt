@@ -7,3 +7,6 @@ mod lexer;
 
 pub use fault::LexFault;
 pub use lexer::lex;
+
+#[cfg(test)]
+mod tests;

@@ -16,3 +16,6 @@ pub use literal::{FrontLiteral, Literal, LiteralFault, front_literal};
 pub use radix::Radix;
 pub use spelling::{is_mark, is_name, is_system_name, lexeme_from, lexeme_of};
 pub use token::{Kind, Token};
+
+#[cfg(test)]
+mod tests;

@@ -1,5 +1,4 @@
-use Rattle.std.proofs.Common.{◌≡◌, ◌+◌, ◌-◌, ℕ, ◌<◌, refl, arith, length}
-use Rattle.std.specs.Prelude.{slice_index}
+use Rattle.std.proofs.Common.{◌≡◌, ◌+◌, ◌-◌, refl, arith}
 use Rattle.svr_lex.proofs.Comments.{ends_at, never_ends}
 use Rattle.svr_lex.proofs.front.comment_body.Goals as goal
 

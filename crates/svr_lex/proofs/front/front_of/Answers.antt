@@ -1,4 +1,4 @@
-use Rattle.std.proofs.Common.{sym, ◌∙◌, ap, refl, take, drop}
+use Rattle.std.proofs.Common.{sym, ◌∙◌, ap, take, drop}
 use Rattle.svr_lex.proofs.Firsts.{blank_sound, blank_gap}
 use Rattle.svr_lex.proofs.Lexemes.{name_front}
 use Rattle.svr_lex.proofs.front.front_of.Goals as goal

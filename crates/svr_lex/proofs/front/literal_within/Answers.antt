@@ -1,4 +1,4 @@
-use Rattle.std.proofs.Common.{refl, ap, Err}
+use Rattle.std.proofs.Common.{ap, Err}
 use Rattle.svr_lex.proofs.Lexemes.{running_on, zero_sized, wide_at}
 use Rattle.svr_lex.proofs.Cuts.{literal_at}
 use Rattle.svr_lex.proofs.front.literal_within.Goals as goal

@@ -1,9 +1,8 @@
-use Rattle.std.proofs.Common.{Some, None, codes}
+use Rattle.std.proofs.Common.{Some, codes}
 use Rattle.std.proofs.lemmas.Bool.Decides.{Decides-eqb}
 use Rattle.std.proofs.lemmas.Slice.Eq.{strip_prefix_is}
 use Rattle.svr_lex.proofs.Comments.{open_at}
 use Rattle.svr_lex.proofs.Cuts.{line_at, block_at}
-use Rattle.svr_lex.proofs.Lexemes.{slash_only}
 use Rattle.svr_lex.proofs.front.slash.Goals as goal
 
 pub returns-in-Some : goal.returns-in-Some

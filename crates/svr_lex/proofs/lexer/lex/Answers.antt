@@ -1,6 +1,6 @@
-use Rattle.std.proofs.Common.{◌≡◌, ◌++◌, [], ◌∷◌, arith, refl, sym, ◌∙◌}
+use Rattle.std.proofs.Common.{arith, refl}
 use Rattle.std.proofs.lemmas.Grind.{common_steps}
-use Rattle.svr_lex.proofs.Laws.{start, gap_step, gap_place, lexeme_step, lexeme_place, whole_tokens, tokens_one, tokens_no_fault, first_fault, fault_answer, only_this}
+use Rattle.svr_lex.proofs.Laws.{start, gap_step, gap_place, lexeme_step, lexeme_place, whole_tokens, tokens_one, tokens_no_fault, first_fault, only_this}
 use Rattle.svr_lex.proofs.lexer.lex.Goals as goal
 
 pub pieces-init : goal.pieces-init
