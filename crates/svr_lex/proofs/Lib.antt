@@ -4,3 +4,4 @@ pub mod Comments
 pub mod Lexemes
 pub mod Cuts
 pub mod Laws
+pub mod Spelled

@@ -1,8 +1,9 @@
 // A text as tokens.
-ghost use Rattle.std.specs.Prelude.{◌≡◌, ◌⊎◌, ◌≤◌, ℕ, List, length, IfOk, IfErr, MatchResult};
+ghost use Rattle.std.specs.Prelude.{◌≡◌, ◌⊎◌, ◌≤◌, ℕ, List, length, IfOk, IfErr, MatchResult, All};
 ghost use Rattle.svr_token.specs.Faults.{Fault};
-ghost use Rattle.svr_token.specs.Tokens.{IsTokenized, IsFirstFault};
+ghost use Rattle.svr_token.specs.Tokens.{IsTokenized, IsFirstFault, IsTokenOf};
 ghost use Rattle.svr_token.specs.declared.token.Token.{Token as TokenType};
+ghost use Rattle.svr_token.specs.declared.lexeme.Lexeme.{Lexeme as LexemeType};
 ghost use Rattle.svr_lex.specs.Lexing.{fault_at, IsFaultOf};
 
 use crate::fault::LexFault;
@@ -16,6 +17,7 @@ use svr_token::Token;
 pub fn lex(alloc: Global, text: &[u8]) -> Result<Vec<Token>, LexFault>
     requires { length text.now ≤ 4194304 }
     ensures tokens { IfOk result (λ v. IsTokenized text.now v.items) }
+    ensures spelled { IfOk result (λ v. All (λ t. (l : LexemeType) × IsTokenOf text.now t l) v.items) }
     ensures fault { IfErr result (λ e. IsFaultOf text.now e) }
 
     // Want of memory aside, a text that has tokens is answered by them, and any other by its first fault.

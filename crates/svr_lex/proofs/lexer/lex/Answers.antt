@@ -1,6 +1,7 @@
 use Rattle.std.proofs.Common.{arith, refl}
 use Rattle.std.proofs.lemmas.Grind.{common_steps}
 use Rattle.svr_lex.proofs.Laws.{start, gap_step, gap_place, lexeme_step, lexeme_place, whole_tokens, tokens_one, tokens_no_fault, first_fault, only_this}
+use Rattle.svr_lex.proofs.Spelled.{spelled_all}
 use Rattle.svr_lex.proofs.lexer.lex.Goals as goal
 
 pub pieces-init : goal.pieces-init
@@ -31,3 +32,7 @@ returns-in-Fault-clause-only_tokens c = λ ts others. absurd (tokens_no_fault _ 
 
 pub returns-in-Fault-clause-only_fault : goal.returns-in-Fault-clause-only_fault
 returns-in-Fault-clause-only_fault c = λ f at fault. only_this _ _ f _ at _ c.at.ensures (first_fault _ _ _ _ _ c.pieces.invariant.front c.in-Fault.ensures) fault
+
+pub returns-in-End-clause-spelled : goal.returns-in-End-clause-spelled
+returns-in-End-clause-spelled c =
+    spelled_all (whole_tokens _ _ _ _ c.pieces.invariant.front c.pieces.invariant.place c.in-End.ensures) c.args.text.now refl (omega arith)
