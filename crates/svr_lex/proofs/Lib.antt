@@ -1,0 +1,7 @@
+pub mod Marks
+pub mod Firsts
+pub mod Comments
+pub mod Lexemes
+pub mod Cuts
+pub mod Laws
+pub mod Spelled

@@ -1,0 +1,13 @@
+use Rattle.std.proofs.Common.{◌≡◌, ◌+◌, ◌≤◌, length}
+use Rattle.svr_token.specs.Tokens.{Tokenizes}
+use Rattle.svr_lex.proofs.lexer.lex.Given as goal
+
+abbrev pub invariant-pieces : goal.invariant-pieces
+invariant-pieces l = record {
+  front : Tokenizes 0 l.text l.tokens.items l.at l.left;
+  place : l.at + length l.left ≡ length l.text;
+  small : length l.text ≤ 4194304;
+}
+
+abbrev pub decreases-pieces : goal.decreases-pieces
+decreases-pieces l = length l.left
