@@ -5,3 +5,4 @@ pub mod RowLemmas
 pub mod GateLemmas
 pub mod FreshLemmas
 pub mod FoldLemmas
+pub mod TableLemmas

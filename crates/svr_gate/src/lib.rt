@@ -2,7 +2,8 @@
 //!
 //! What crates above cite: the words of `specs/Circuit.antt` and `specs/Numbers.antt`, and the
 //! lemma files `proofs/Circuits.antt` (a circuit that extends another), `proofs/Vectors.antt`
-//! (literals that give a number) and `proofs/NumberLemmas.antt` (numbers of lists of literals).
+//! (literals that give a number), `proofs/NumberLemmas.antt` (numbers of lists of literals) and
+//! `proofs/TableLemmas.antt` (what the named tables say of their inputs).
 #![tactic(auto)]
 
 mod builder;
@@ -10,6 +11,8 @@ mod fold;
 mod memory;
 mod row;
 mod tables;
+#[cfg(test)]
+mod tests;
 
 pub use builder::Builder;
 pub use memory::NoMemory;

@@ -1,6 +1,10 @@
-//! The tables of the gates of operators, by name.
+//! The tables of the operators' gates, by name.
 
-/// The table of a gate: bit i is its value where input j is bit j of i.
+/// The table of a gate: bit i of it is the gate's value where input j is bit j of i.
+///
+/// `never` and `always` have no input, `same` has one, `both`, `either` and `unequal` have two.
+/// Of three inputs, `sum` and `carry` are the two bits of their sum, `choice` is input 1 where
+/// input 0 holds and else input 2, and `agree` is input 0 where the other two are equal.
 #[macro_export]
 macro_rules! table {
     (never) => { 0x0 };
@@ -12,4 +16,5 @@ macro_rules! table {
     (sum) => { 0x96 };
     (carry) => { 0xe8 };
     (choice) => { 0xd8 };
+    (agree) => { 0x82 };
 }

@@ -1,13 +1,22 @@
-// A library with one function.
+//! Circuits that choose, extend and shift vectors of literals, and that reduce them to one
+//! (IEEE 1800-2017, clauses 11.4.9 to 11.4.11 and 11.8.2). Vectors stand least bit first.
+//!
+//! What crates above cite: the words of `specs/Shape.antt`, and the lemma file
+//! `proofs/ReductionLemmas.antt` (reductions as tests of the number of a vector).
 #![tactic(auto)]
 
-ghost use Rattle.std.specs.Prelude.{◌≡◌};
-ghost use Rattle.svr_shape.specs.Echo.{echo_of};
+mod choice;
+mod extension;
+mod kind;
+mod memory;
+mod reduction;
+mod shifter;
+#[cfg(test)]
+mod tests;
 
-// The `ensures` clause is the contract: what `echo` returns is `echo_of` of its argument, a definition
-// in `specs/Echo.antt`, which a caller's clause can cite too.
-pub fn echo(x: usize) -> usize
-    ensures { result ≡ echo_of x }
-{
-    x
-}
+pub use choice::choose;
+pub use extension::extend;
+pub use kind::Shift;
+pub use memory::NoMemory;
+pub use reduction::{all, any, odd};
+pub use shifter::shift;
