@@ -1,10 +1,11 @@
 -- Circuits that extend others. Crates above may cite these; the ruleset `later` closes the goals at `?`.
-use Rattle.std.proofs.Common.{◌≡◌, ℕ, Bool, List, [], ◌∷◌, refl, ◌∙◌, arith}
+use Rattle.std.proofs.Common.{◌≡◌, ℕ, Bool, not, List, [], ◌∷◌, refl, ◌∙◌, ap, arith}
 use Rattle.std.proofs.lemmas.List.Elements.{All-weaker, All-nil, All-cons}
 use Rattle.svr_chain.specs.declared.clause.Lit.{Lit}
-use Rattle.svr_chain.specs.Clauses.{IsWithin, AreWithin}
+use Rattle.svr_chain.specs.Clauses.{IsWithin, AreWithin, flip}
 use Rattle.svr_chain.specs.Valuations.{lit_value, Meets}
 use Rattle.svr_gate.specs.Circuit.{Circuit, Extends, Tells}
+use Rattle.svr_gate.proofs.NumberLemmas.{lit_value-flip}
 
 pub Extends-refl : (c : Circuit) → Extends c c
 Extends-refl c = record { inputs = refl; vars = omega arith; keeps = λ a m. m; extends = λ a m. (a, (λ v h. refl), m) }
@@ -47,3 +48,7 @@ Tells-same g t e = record { within = t.within; value = λ a m. t.value a m ∙ e
 -- a literal tells itself
 pub Tells-self : (c : Circuit) (l : Lit) → IsWithin c.vars l → Tells c l (λ a. lit_value a l)
 Tells-self c l w = record { within = w; value = λ a m. refl }
+
+-- the other sign tells the opposite
+pub Tells-flipped : {c : Circuit} {l : Lit} {f : (ℕ → Bool) → Bool} → Tells c l f → Tells c (flip l) (λ a. not (f a))
+Tells-flipped {c} {l} t = record { within = t.within; value = λ a m. lit_value-flip a l ∙ ap not (t.value a m) }

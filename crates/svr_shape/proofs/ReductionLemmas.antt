@@ -1,9 +1,11 @@
 -- Reductions literal by literal, and as tests of the number of a vector. Crates above may cite these.
-use Rattle.std.proofs.Common.{◌≡◌, ℕ, ◌+◌, ◌-◌, ◌*◌, ◌%◌, ◌^◌, ◌<◌, Bool, true, false, cond, not, ◌&&◌, ◌||◌, eqb, List, [], ◌∷◌, length, take, get_or, sym, ◌∙◌, ap, refl, arith, ⊎_elim}
+use Rattle.std.proofs.Common.{◌≡◌, ℕ, ◌+◌, ◌-◌, ◌*◌, ◌%◌, ◌^◌, ◌<◌, count_ones, Bool, true, false, cond, not, ◌&&◌, ◌||◌, eqb, List, [], ◌∷◌, length, map, take, get_or, sym, ◌∙◌, ap, refl, arith, ⊎_elim}
 use Rattle.std.specs.List.{list_any, list_all, count_by}
 use Rattle.std.proofs.lemmas.Bool.{cases_eq, eq-eqb, ne_eqb}
 use Rattle.std.proofs.lemmas.List.Folds.{list_any_more, list_all_more}
 use Rattle.std.proofs.lemmas.List.Sums.{sum_by_more}
+use Rattle.std.proofs.lemmas.Simd.{ones-mask_l}
+use lib.Lanes.{mask_l}
 use Rattle.std.proofs.Math.Nat.{pow-suc}
 use Rattle.svr_chain.specs.declared.clause.Lit.{Lit}
 use Rattle.svr_chain.specs.Valuations.{lit_value}
@@ -61,3 +63,14 @@ all_number a (l ∷ ls) = by_first (lit_value a l) (list_all (lit_value a) ls) (
   by_first false s m n k e f lt = sym (ne_eqb n (k * 2 - 1) (λ z. omega arith))
   by_first true s m n k e f lt =
       e ∙ ⊎_elim (λ (z : m ≡ k - 1). eq-eqb m (k - 1) z ∙ sym (eq-eqb n (k * 2 - 1) (omega arith))) (λ (z : m ≡ k - 1 → ⊥). ne_eqb m (k - 1) z ∙ sym (ne_eqb n (k * 2 - 1) (λ j. z (omega arith)))) (cases_eq m (k - 1))
+
+number_mask : (a : ℕ → Bool) (x : List Lit) → number a x ≡ mask_l (map (lit_value a) x)
+number_mask a [] = number-nil a
+number_mask a (l ∷ ls) = number-cons a l ls ∙ ap (λ k. bit (lit_value a l) + 2 * k) (number_mask a ls) ∙ ap (λ k. k + 2 * mask_l (map (lit_value a) ls)) (as_cond (lit_value a l)) where
+  as_cond : (b : Bool) → bit b ≡ cond b 1 0
+  as_cond true = refl
+  as_cond false = refl
+
+-- as many literals hold as the number has bits set
+pub count_number : (a : ℕ → Bool) (x : List Lit) → count_by (lit_value a) x ≡ count_ones (number a x)
+count_number a x = sym (ones-mask_l (lit_value a) x) ∙ ap count_ones (sym (number_mask a x))

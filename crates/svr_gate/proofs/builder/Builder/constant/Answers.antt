@@ -1,11 +1,6 @@
-use Rattle.std.proofs.Common.{ap, sym, not, ◌∙◌}
-use Rattle.svr_gate.proofs.NumberLemmas.{lit_value-flip}
+use Rattle.std.proofs.Common.{sym}
+use Rattle.svr_gate.proofs.Circuits.{Tells-flipped, Tells-same}
 use Rattle.svr_gate.proofs.builder.Builder.constant.Goals as goal
 
 pub returns-else-value-clause-value : goal.returns-else-value-clause-value
-returns-else-value-clause-value c =
-    rw c.flipped.ensures
-    (record {
-      within = c.in_ok-one.ensures.value.within;
-      value = λ a m. lit_value-flip a c.in_ok-one.one ∙ ap not (c.in_ok-one.ensures.value.value a m) ∙ sym c.if-value.false;
-    })
+returns-else-value-clause-value c = rw c.flipped.ensures (Tells-same (λ a. c.args.value) (Tells-flipped c.in_ok-one.ensures.value) (λ a m. sym c.if-value.false))
