@@ -1,0 +1,6 @@
+use Rattle.std.proofs.Common.{arith}
+use Rattle.svr_gate.proofs.RowLemmas.{row_count}
+use Rattle.svr_gate.proofs.fold.is_always.Goals as goal
+
+pub overflow_shr-table : goal.overflow_shr-table
+overflow_shr-table c = omega (arith, (row_count c.args.count c.requires).1)

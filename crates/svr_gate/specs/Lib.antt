@@ -1,0 +1,4 @@
+pub mod Numbers
+pub mod Settled
+pub mod Circuit
+pub mod Gates

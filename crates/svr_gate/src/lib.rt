@@ -1,0 +1,18 @@
+//! Gates of any table as clauses, over which circuits are built (G. S. Tseitin, 1968).
+//!
+//! What crates above cite: the words of `specs/Circuit.antt` and `specs/Numbers.antt`, and the
+//! lemma files `proofs/Circuits.antt` (a circuit that extends another), `proofs/Vectors.antt`
+//! (literals that give a number), `proofs/NumberLemmas.antt` (numbers of lists of literals) and
+//! `proofs/TableLemmas.antt` (what the named tables say of their inputs).
+#![tactic(auto)]
+
+mod builder;
+mod fold;
+mod memory;
+mod row;
+mod tables;
+#[cfg(test)]
+mod tests;
+
+pub use builder::Builder;
+pub use memory::NoMemory;

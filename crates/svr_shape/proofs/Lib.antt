@@ -1,0 +1,4 @@
+pub mod ChoiceLemmas
+pub mod ReductionLemmas
+pub mod ExtensionLemmas
+pub mod ShiftLemmas
