@@ -1,0 +1,4 @@
+pub mod ClassTerm
+pub mod ExprTerm
+pub mod ItemTerm
+pub mod StmtTerm

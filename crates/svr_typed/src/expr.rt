@@ -1,0 +1,273 @@
+// Typed expressions.
+
+ghost use Rattle.std.specs.Prelude.{◌≡◌, IfOk};
+ghost use Rattle.svr_typed.specs.ExprTerm as term;
+ghost use Rattle.svr_typed.specs.ExprTerm.{expr_term, node_term, range_term, bound_term, expr_terms, range_terms};
+
+use crate::memory::NoMemory;
+use crate::operator::{BinOp, UnOp};
+use sqlite_items::{Boxed, Items};
+use std::alloc::Global;
+
+/// An expression with its self-determined size and its sign (IEEE 1800-2017, 11.6 and 11.8). `width` is in bits, from 1 to 64.
+#[cycle(expr)]
+#[derive(Drop)]
+pub struct TExpr {
+    pub width: u8,
+    pub signed: bool,
+    pub node: TNode,
+}
+
+/// The form of an expression. Properties are named by their places in the flat order of the class, script variables by their places among the variables.
+#[cycle(expr)]
+#[derive(Drop)]
+pub enum TNode {
+    /// A literal, an enum member or a loop number. `every` is true for `'0` and `'1`, whose `value`, 0 or 1, is that of every bit.
+    Number {
+        value: u64,
+        every: bool,
+    },
+    /// A scalar property, or a whole array where one may stand without an index. It then has the size and sign of an element.
+    Prop(u32),
+    /// An element of an array property, by its index.
+    Element(u32, Boxed<TExpr>),
+    /// The number of elements of an array property: 32 bits, signed.
+    Size(u32),
+    /// A script variable.
+    Script(u32),
+    /// A loop variable, counted outwards from the innermost loop, from 0: 32 bits, signed.
+    Loop(u32),
+    /// In a statement: a property, an element or a size of the object that this object variable has.
+    Of(u32, Boxed<TExpr>),
+    /// A bit-select, or with `last` a part-select (IEEE 1800-2017, 11.5.1). `low` is the lowest bit number of the declared range of `base`, 0 where it has none.
+    Select {
+        base: Boxed<TExpr>,
+        first: Boxed<TExpr>,
+        last: Option<Boxed<TExpr>>,
+        low: i64,
+    },
+    Unary {
+        op: UnOp,
+        arg: Boxed<TExpr>,
+    },
+    Binary {
+        op: BinOp,
+        left: Boxed<TExpr>,
+        right: Boxed<TExpr>,
+    },
+    /// The conditional operator (IEEE 1800-2017, 11.4.11).
+    Choice {
+        test: Boxed<TExpr>,
+        yes: Boxed<TExpr>,
+        no: Boxed<TExpr>,
+    },
+    /// Set membership (IEEE 1800-2017, 11.4.13).
+    Inside {
+        left: Boxed<TExpr>,
+        set: Items<TRange>,
+    },
+    /// A concatenation (IEEE 1800-2017, 11.4.12).
+    Join {
+        parts: Items<TExpr>,
+    },
+    /// A replication (IEEE 1800-2017, 11.4.12.1).
+    Copies {
+        count: Boxed<TExpr>,
+        parts: Items<TExpr>,
+    },
+    /// `$signed` or `$unsigned` (IEEE 1800-2017, 20.5).
+    Sign {
+        signed: bool,
+        arg: Boxed<TExpr>,
+    },
+}
+
+/// A member of a set: a value, or the values from the first bound to the second.
+#[cycle(expr)]
+#[derive(Drop)]
+pub enum TRange {
+    One(TExpr),
+    Span(TBound, TBound),
+}
+
+/// A bound of a range. `Dollar` is the least or the greatest value of the compared type.
+#[cycle(expr)]
+#[derive(Drop)]
+pub enum TBound {
+    Value(TExpr),
+    Dollar,
+}
+
+impl TExpr {
+    pub fn new(width: u8, signed: bool, node: TNode) -> TExpr
+        ensures { expr_term result ≡ term.typed width signed (node_term node) }
+    {
+        TExpr {
+            width,
+            signed,
+            node,
+        }
+    }
+}
+
+impl TNode {
+    pub fn number(value: u64, every: bool) -> TNode
+        ensures { node_term result ≡ term.number value every }
+    {
+        TNode::Number { value, every }
+    }
+
+    pub fn prop(prop: u32) -> TNode
+        ensures { node_term result ≡ term.prop prop }
+    {
+        TNode::Prop(prop)
+    }
+
+    pub fn element(alloc: Global, prop: u32, index: TExpr) -> Result<TNode, NoMemory>
+        ensures { IfOk result (λ n. node_term n ≡ term.element prop (expr_term index)) }
+    {
+        Ok(TNode::Element(prop, Boxed::new(alloc, index)?))
+    }
+
+    pub fn size(prop: u32) -> TNode
+        ensures { node_term result ≡ term.size prop }
+    {
+        TNode::Size(prop)
+    }
+
+    pub fn script(var: u32) -> TNode
+        ensures { node_term result ≡ term.script var }
+    {
+        TNode::Script(var)
+    }
+
+    pub fn loop_index(depth: u32) -> TNode
+        ensures { node_term result ≡ term.loop_index depth }
+    {
+        TNode::Loop(depth)
+    }
+
+    pub fn of_object(alloc: Global, object: u32, part: TExpr) -> Result<TNode, NoMemory>
+        ensures { IfOk result (λ n. node_term n ≡ term.of_object object (expr_term part)) }
+    {
+        Ok(TNode::Of(object, Boxed::new(alloc, part)?))
+    }
+
+    pub fn bit_select(alloc: Global, base: TExpr, index: TExpr, low: i64) -> Result<TNode, NoMemory>
+        ensures { IfOk result (λ n. node_term n ≡ term.bit_select (expr_term base) (expr_term index) low) }
+    {
+        Ok(TNode::Select {
+            base: Boxed::new(alloc, base)?,
+            first: Boxed::new(alloc, index)?,
+            last: None,
+            low,
+        })
+    }
+
+    pub fn part_select(
+        alloc: Global,
+        base: TExpr,
+        first: TExpr,
+        last: TExpr,
+        low: i64,
+    ) -> Result<TNode, NoMemory>
+        ensures { IfOk result (λ n. node_term n ≡ term.part_select (expr_term base) (expr_term first) (expr_term last) low) }
+    {
+        Ok(TNode::Select {
+            base: Boxed::new(alloc, base)?,
+            first: Boxed::new(alloc, first)?,
+            last: Some(Boxed::new(alloc, last)?),
+            low,
+        })
+    }
+
+    pub fn unary(alloc: Global, op: UnOp, arg: TExpr) -> Result<TNode, NoMemory>
+        ensures { IfOk result (λ n. node_term n ≡ term.unary op (expr_term arg)) }
+    {
+        Ok(TNode::Unary {
+            op,
+            arg: Boxed::new(alloc, arg)?,
+        })
+    }
+
+    pub fn binary(alloc: Global, op: BinOp, left: TExpr, right: TExpr) -> Result<TNode, NoMemory>
+        ensures { IfOk result (λ n. node_term n ≡ term.binary op (expr_term left) (expr_term right)) }
+    {
+        Ok(TNode::Binary {
+            op,
+            left: Boxed::new(alloc, left)?,
+            right: Boxed::new(alloc, right)?,
+        })
+    }
+
+    pub fn choice(alloc: Global, test: TExpr, yes: TExpr, no: TExpr) -> Result<TNode, NoMemory>
+        ensures { IfOk result (λ n. node_term n ≡ term.choice (expr_term test) (expr_term yes) (expr_term no)) }
+    {
+        Ok(TNode::Choice {
+            test: Boxed::new(alloc, test)?,
+            yes: Boxed::new(alloc, yes)?,
+            no: Boxed::new(alloc, no)?,
+        })
+    }
+
+    pub fn inside(alloc: Global, left: TExpr, set: Items<TRange>) -> Result<TNode, NoMemory>
+        ensures { IfOk result (λ n. node_term n ≡ term.inside (expr_term left) (range_terms set)) }
+    {
+        Ok(TNode::Inside {
+            left: Boxed::new(alloc, left)?,
+            set,
+        })
+    }
+
+    pub fn join(parts: Items<TExpr>) -> TNode
+        ensures { node_term result ≡ term.join (expr_terms parts) }
+    {
+        TNode::Join { parts }
+    }
+
+    pub fn copies(alloc: Global, count: TExpr, parts: Items<TExpr>) -> Result<TNode, NoMemory>
+        ensures { IfOk result (λ n. node_term n ≡ term.copies (expr_term count) (expr_terms parts)) }
+    {
+        Ok(TNode::Copies {
+            count: Boxed::new(alloc, count)?,
+            parts,
+        })
+    }
+
+    pub fn sign(alloc: Global, signed: bool, arg: TExpr) -> Result<TNode, NoMemory>
+        ensures { IfOk result (λ n. node_term n ≡ term.sign signed (expr_term arg)) }
+    {
+        Ok(TNode::Sign {
+            signed,
+            arg: Boxed::new(alloc, arg)?,
+        })
+    }
+}
+
+impl TRange {
+    pub fn one(value: TExpr) -> TRange
+        ensures { range_term result ≡ term.one (expr_term value) }
+    {
+        TRange::One(value)
+    }
+
+    pub fn span(low: TBound, high: TBound) -> TRange
+        ensures { range_term result ≡ term.span (bound_term low) (bound_term high) }
+    {
+        TRange::Span(low, high)
+    }
+}
+
+impl TBound {
+    pub fn value(value: TExpr) -> TBound
+        ensures { bound_term result ≡ term.value (expr_term value) }
+    {
+        TBound::Value(value)
+    }
+
+    pub fn dollar() -> TBound
+        ensures { bound_term result ≡ term.dollar }
+    {
+        TBound::Dollar
+    }
+}
