@@ -5,3 +5,4 @@ pub mod Value
 pub mod Typed
 pub mod Holds
 pub mod Operands
+pub mod Examples

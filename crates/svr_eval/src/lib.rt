@@ -3,14 +3,22 @@
 
 mod assign;
 mod env;
+mod examples;
 mod expr;
 mod item;
 mod operand;
 mod operator;
 mod parts;
+#[cfg(test)]
+mod tests;
 
 pub use assign::Assign;
 pub use env::Env;
+pub use examples::{
+    arithmetic_is_as_worked_out, bitwise_is_as_worked_out, comparisons_are_as_worked_out,
+    items_are_as_worked_out, memberships_are_as_worked_out, selects_are_as_worked_out,
+    shifts_are_as_worked_out, wholes_are_as_worked_out,
+};
 pub use expr::value;
 pub use item::{all_hold, holds};
 pub use operator::{
