@@ -1,0 +1,6 @@
+pub mod Bits
+pub mod Below
+pub mod Drops
+pub mod Constant
+pub mod Operands
+pub mod Loops

@@ -1,0 +1,8 @@
+use Rattle.std.proofs.Common.{sym, ap, ◌∙◌, arith}
+use Rattle.svr_num.specs.Num.{Word}
+use Rattle.svr_eval.proofs.Bits.{moved_past}
+use Rattle.svr_eval.proofs.parts.bits_above.Goals as goal
+
+pub returns-else-by-lt64-clause-value : goal.returns-else-by-lt64-clause-value
+returns-else-by-lt64-clause-value c =
+    ap (λ (x : Word). x.value) c.bits.ensures ∙ sym (moved_past c.args.value c.args.by c.args.width (omega (arith, c.requires.high, c.if-by-lt64.false)))
