@@ -1,0 +1,130 @@
+-- Decided literals are assumed ones, up to the first trail that makes all of these true
+use Rattle.std.proofs.Common.{◌≡◌, ℕ, suc, zero, ◌<◌, ◌≤◌, Bool, true, false, ◌&&◌, ◌||◌, not, List, [], ◌∷◌, length, refl, ap, sym, ◌∙◌, subst, arith, Option, Some, None, get_or, take, inl, inr}
+use Rattle.std.specs.Prelude.{is_none, Contains}
+use Rattle.std.specs.Option.{option_map}
+use Rattle.std.proofs.lemmas.Bool.{and_parts, or_cases, cases_lt, both_ways, false≢true, false_from_ne_true}
+use Rattle.std.proofs.lemmas.List.{take-take, get_or-take, length-take-le, take_all}
+use Rattle.svr_chain.specs.declared.clause.Lit.{Lit}
+use Rattle.svr_chain.specs.Clauses.{same_sign, same_lit, flip, has, is_tautology}
+use Rattle.svr_chain.proofs.Sound.{same_lit-true}
+use Rattle.svr_chain.proofs.Same.{all-has, any-has, any-some}
+use Rattle.svr_cdcl.specs.declared.trail.Entry.{Entry}
+use Rattle.svr_cdcl.specs.Trail.{sign_at, value_in, Each, IsGrown}
+use Rattle.svr_cdcl.specs.Search.{SearchView, IsSearch}
+use Rattle.svr_cdcl.specs.Learned.{is_decided, is_kept, is_explained, reason_in}
+use Rattle.svr_cdcl.proofs.Levels.{not_none}
+use Rattle.svr_cdcl.proofs.Quiet.{all-weaker}
+use Rattle.svr_cdcl.proofs.Chains.{flip-flip}
+use Rattle.svr_cdcl.proofs.TableLemmas.{sign_at-take}
+use Rattle.svr_cdcl.proofs.Reasons.{decided-from_none}
+use Rattle.svr_query.specs.Logged.{is_true, are_true, IsAsked}
+use Rattle.svr_chain.specs.Log.{are_denied}
+
+-- a propagation decides nothing
+pub asked-grown : (assume : List Lit) (ks : List (List Lit)) (old new : List Entry) → Each (IsAsked assume) old → IsGrown ks old new → Each (IsAsked assume) new
+asked-grown assume ks old new a g i e h =
+    elim (cases_lt i (length old)) [
+      | inl q ↦
+          let t : take i old ≡ take i new = ap (take i) (sym g.same) ∙ take-take i (length old) new (omega arith) in
+          let at : get_or old i e ≡ get_or new i e = ap (λ z. get_or z i e) (sym g.same) ∙ get_or-take (length old) new i e q in
+          subst (λ z. IsAsked assume z (get_or new i e)) t (subst (λ z. IsAsked assume (take i old) z) at (a i e q))
+      | inr q ↦ λ n. absurd (not_none (get_or new i e).reason (g.forced i e q h) n)
+    ]
+
+pub asked-take : (assume : List Lit) (n : ℕ) (es : List Entry) → n ≤ length es → Each (IsAsked assume) es → Each (IsAsked assume) (take n es)
+asked-take assume n es o a i e h =
+    let l : length (take n es) ≡ n = length-take-le n es o in
+    let t : take i es ≡ take i (take n es) = sym (take-take i n es (omega arith)) in
+    let at : get_or es i e ≡ get_or (take n es) i e = sym (get_or-take n es i e (omega arith)) in
+    subst (λ z. IsAsked assume z (get_or (take n es) i e)) t (subst (λ z. IsAsked assume (take i es) z) at (a i e (omega arith)))
+
+-- nothing is decided at level 0
+pub none_at_0 : (s : SearchView) → IsSearch s → s.ends ≡ [] → (i : ℕ) (e : Entry) → i < length s.entries → (get_or s.entries i e).reason ≡ None → ⊥
+none_at_0 s k z i e h n =
+    let c : Contains s.ends i = k.starts i e h n in
+    let l : length s.ends ≡ 0 = ap length z in
+    let b : c.0 < length s.ends = c.1 in
+    omega arith
+
+pub asked-start : (assume : List Lit) (s : SearchView) → IsSearch s → s.ends ≡ [] → Each (IsAsked assume) s.entries
+asked-start assume s k z i e h n = absurd (none_at_0 s k z i e h n)
+
+none-from : (r : Option ℕ) → is_none r ≡ true → r ≡ None
+none-from None h = refl
+none-from (Some x) h = cc
+
+pub decided-index : (es : List Entry) (l : Lit) (d : Entry) → is_decided es l ≡ true → (i : ℕ) × (i < length es) × ((get_or es i d).lit ≡ l) × ((get_or es i d).reason ≡ None)
+decided-index [] l d h = absurd (false≢true h)
+decided-index (e ∷ es) l d h =
+    elim (or_cases (same_lit e.lit l && is_none e.reason) (is_decided es l) h) [
+      | inl q ↦ let p = and_parts (same_lit e.lit l) (is_none e.reason) q in (zero, omega arith, same_lit-true e.lit l p.0, none-from e.reason p.1)
+      | inr q ↦ let r = decided-index es l d q in (suc r.0, (let b : r.0 < length es = r.1 in omega arith), r.2, r.3)
+    ]
+
+pub decided-has : (assume : List Lit) (es : List Entry) → Each (IsAsked assume) es → ((i : ℕ) → i < length es → are_true (take i es) assume ≡ true → ⊥)
+    → (l : Lit) → is_decided es l ≡ true → has assume l ≡ true
+decided-has assume es a f l h =
+    let d : Entry = record { lit = l; reason = None } in
+    let r = decided-index es l d h in
+    elim (a r.0 d r.1 r.3) [
+      | inl q ↦ ap (has assume) (sym r.2) ∙ q
+      | inr q ↦ absurd (f r.0 r.1 q)
+    ]
+
+pub decided-never : (assume : List Lit) (s : SearchView) → IsSearch s → s.ends ≡ [] → (l : Lit) → is_decided s.entries l ≡ true → has assume l ≡ true
+decided-never assume s k z l h =
+    let d : Entry = record { lit = l; reason = None } in
+    let r = decided-index s.entries l d h in
+    absurd (none_at_0 s k z r.0 d r.1 r.3)
+
+true-value : (f : Bool → Bool) (s t : Option Bool) → ((b : Bool) → s ≡ Some b → t ≡ Some b) → is_true (option_map f s) ≡ true → is_true (option_map f t) ≡ true
+true-value f None t g h = cc
+true-value f (Some b) t g h = ap (λ z. is_true (option_map f z)) (g b refl) ∙ h
+
+true-grows : (es : List Entry) (j : ℕ) (x : Lit) → j ≤ length es → is_true (value_in (take j es) x) ≡ true → is_true (value_in es x) ≡ true
+true-grows es j x o h =
+    let all : take (length es) es ≡ es = take_all (length es) es (omega arith) in
+    ap (λ z. is_true (value_in z x)) (sym all)
+    ∙ true-value (λ n. same_sign n x.neg) (sign_at (take j es) x.var) (sign_at (take (length es) es) x.var) (λ b e. sign_at-take es j (length es) x.var b o e) h
+
+-- where an assumed literal is false, the assumed ones were never all true
+pub never-true : (assume : List Lit) (es : List Entry) (a : Lit) → has assume a ≡ true → value_in es a ≡ Some false → (i : ℕ) → i < length es → are_true (take i es) assume ≡ true → ⊥
+never-true assume es a h f i o t =
+    let u : is_true (value_in (take i es) a) ≡ true = all-has (λ x. is_true (value_in (take i es) x)) assume a t h in
+    both_ways (is_true (value_in es a)) (ap is_true f) (true-grows es i a (omega arith) u)
+
+pub denied-from : (assume : List Lit) (es : List Entry) (keep : Option Lit) (c : List Lit) → ((l : Lit) → is_decided es l ≡ true → has assume l ≡ true)
+    → ((x : Lit) → is_kept keep x ≡ true → has assume (flip x) ≡ true) → is_explained es keep c ≡ true → are_denied assume c ≡ true
+denied-from assume es keep c d k e =
+    all-weaker (λ x. is_kept keep x || is_decided es (flip x)) (λ x. has assume (flip x)) c
+    (λ x h. elim (or_cases (is_kept keep x) (is_decided es (flip x)) h) [ inl q ↦ k x q | inr q ↦ d (flip x) q ]) e
+
+pub kept-none : (assume : List Lit) (x : Lit) → is_kept None x ≡ true → has assume (flip x) ≡ true
+kept-none assume x h = absurd (false≢true h)
+
+pub kept-flip : (assume : List Lit) (a x : Lit) → has assume a ≡ true → is_kept (Some (flip a)) x ≡ true → has assume (flip x) ≡ true
+kept-flip assume a x h k = ap (λ z. has assume (flip z)) (same_lit-true x (flip a) k) ∙ (ap (has assume) (flip-flip a) ∙ h)
+
+turned_true : (s : Option Bool) (n : Bool) → option_map (λ b. same_sign b n) s ≡ Some false → option_map (λ b. same_sign b (not n)) s ≡ Some true
+turned_true None n h = cc
+turned_true (Some true) true h = cc
+turned_true (Some true) false h = refl
+turned_true (Some false) true h = refl
+turned_true (Some false) false h = cc
+
+-- an assumed literal that is false was not decided
+pub reason-there : (assume : List Lit) (es : List Entry) (a : Lit) → is_tautology assume ≡ false → has assume a ≡ true → value_in es a ≡ Some false
+    → ((l : Lit) → is_decided es l ≡ true → has assume l ≡ true) → reason_in es (flip a) ≡ None → ⊥
+reason-there assume es a t h f d n =
+    let v : value_in es (flip a) ≡ Some true = turned_true (sign_at es a.var) a.neg f in
+    let b : has assume (flip a) ≡ true = d (flip a) (decided-from_none es (flip a) v n) in
+    both_ways (is_tautology assume) t (any-has (λ x. has assume (flip x)) assume a h b)
+
+-- a clause whose literals are all denied is no tautology
+pub denied-apart : (assume c : List Lit) → is_tautology assume ≡ false → are_denied assume c ≡ true → is_tautology c ≡ false
+denied-apart assume c t d =
+    false_from_ne_true (is_tautology c) (λ h.
+    let r = any-some (λ x. has c (flip x)) c h in
+    let p : has assume (flip r.0) ≡ true = all-has (λ x. has assume (flip x)) c r.0 d r.1 in
+    let q : has assume (flip (flip r.0)) ≡ true = all-has (λ x. has assume (flip x)) c (flip r.0) d r.2 in
+    both_ways (is_tautology assume) t (any-has (λ x. has assume (flip x)) assume (flip r.0) p q))

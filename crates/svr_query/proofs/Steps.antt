@@ -1,0 +1,34 @@
+-- Logs, one step at a time
+use Rattle.std.proofs.Common.{◌≡◌, ℕ, ◌+◌, true, List, [], ◌∷◌, ◌++◌, length, ap, ◌∙◌, Some, Result, Ok, Err}
+use Rattle.std.specs.List.{list_all}
+use Rattle.std.proofs.lemmas.Bool.{cond-true}
+use Rattle.svr_chain.specs.declared.clause.Lit.{Lit}
+use Rattle.svr_chain.specs.Chain.{Chain}
+use Rattle.svr_chain.specs.declared.log.Reason.{Reason}
+use Rattle.svr_chain.specs.declared.log.Verdict.TheVariants.{Accepted, Rejected}
+use Rattle.svr_chain.specs.Clauses.{flip, has}
+use Rattle.svr_chain.specs.Log.{named, step_result, after_steps, is_denied, goal_verdict, verdict_of}
+
+-- a log with one accepted step more
+pub after_steps-push : (ss : List Chain) (ks : List (List Lit)) (n : ℕ) (s : Chain) (known : List (List Lit)) (c : List Lit)
+    → after_steps ks n ss ≡ Ok known → step_result known s ≡ Ok c → after_steps ks n (ss ++ s ∷ []) ≡ Ok (known ++ c ∷ [])
+after_steps-push [] ks n s known c e f = last (step_result ks s) (let w : ks ≡ known = cc in ap (λ z. step_result z s) w ∙ f) (let w : ks ≡ known = cc in w)
+  where
+    last : (r : Result (List Lit) Reason) → r ≡ Ok c → ks ≡ known → (elim r as (λ x. Result (List (List Lit)) (ℕ × Reason)) [ Ok d ↦ Ok (ks ++ d ∷ []) | Err x ↦ Err (n, x) ]) ≡ Ok (known ++ c ∷ [])
+    last (Ok d) g w = let z : d ≡ c = cc in ap (λ y. Ok (ks ++ y ∷ [])) z ∙ ap (λ y. Ok (y ++ c ∷ [])) w
+    last (Err x) g w = cc
+after_steps-push (x ∷ ss) ks n s known c e f = next (step_result ks x) e (λ d g. after_steps-push ss (ks ++ d ∷ []) (n + 1) s known c g f)
+  where
+    next : (r : Result (List Lit) Reason)
+        → (elim r as (λ x. Result (List (List Lit)) (ℕ × Reason)) [ Ok d ↦ after_steps (ks ++ d ∷ []) (n + 1) ss | Err y ↦ Err (n, y) ]) ≡ Ok known
+        → ((d : List Lit) → after_steps (ks ++ d ∷ []) (n + 1) ss ≡ Ok known → after_steps (ks ++ d ∷ []) (n + 1) (ss ++ s ∷ []) ≡ Ok (known ++ c ∷ []))
+        → (elim r as (λ x. Result (List (List Lit)) (ℕ × Reason)) [ Ok d ↦ after_steps (ks ++ d ∷ []) (n + 1) (ss ++ s ∷ []) | Err y ↦ Err (n, y) ]) ≡ Ok (known ++ c ∷ [])
+    next (Ok d) g h = h d g
+    next (Err y) g h = cc
+
+-- the goal of a log that is accepted step by step
+pub accepted-goal : (ks : List (List Lit)) (assume : List Lit) (ss : List Chain) (known : List (List Lit)) (g : ℕ) (c : List Lit)
+    → after_steps ks 1 ss ≡ Ok known → named known g ≡ Some c → list_all (λ x. has assume (flip x)) c ≡ true → verdict_of ks assume ss (Some g) ≡ Accepted
+accepted-goal ks assume ss known g c e m d =
+    ap (λ r. elim r [ Ok z ↦ goal_verdict z (length ss + 1) assume (Some g) | Err f ↦ Rejected f.0 f.1 ]) e
+    ∙ cond-true _ _ _ (ap (is_denied assume) m ∙ d)

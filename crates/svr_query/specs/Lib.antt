@@ -1,0 +1,4 @@
+pub mod Logged
+pub mod Found
+pub mod Answer
+pub mod Inside

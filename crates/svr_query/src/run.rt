@@ -1,0 +1,159 @@
+// The loop of the search: propagate, decide, learn.
+
+ghost use Rattle.std.specs.Prelude.{◌≡◌, ◌+◌, ◌≤◌, ◌<◌, ℕ, true, false, [], IfOk, IfSome, IfNone, IsSome, None, List, length, take};
+ghost use Rattle.svr_chain.specs.declared.clause.Lit.{Lit};
+ghost use Rattle.svr_chain.specs.Clauses.{AreWithin, IsWithin, is_tautology};
+ghost use Rattle.svr_cdcl.specs.Trail.{sign_at, value_in};
+ghost use Rattle.svr_query.specs.Found.{IsAssumed, IsFound};
+ghost use Rattle.svr_query.specs.Logged.{IsLogged};
+
+use crate::memory::NoMemory;
+use crate::order::Order;
+use crate::restarts::Restarts;
+use std::alloc::Global;
+use svr_cdcl::{Explained, Search};
+use svr_chain::{Clause, Lit, Step};
+
+/// What the assumed literals ask for next: a decision, the end since one of them is false, or nothing more.
+#[derive(Clone, Copy, Debug)]
+pub enum Assumed {
+    Decide(Lit),
+    Denied(Lit),
+    Done,
+}
+
+/// What the search found. A refutation ends with a derived clause whose literals are all denied.
+#[derive(Debug, Drop)]
+pub enum Found {
+    Satisfied,
+    Refuted(Explained),
+    Spent,
+}
+
+/// The first assumed literal that is not true.
+fn next_assumed(search: &Search, assume: &[Lit]) -> Assumed
+    ensures { IsAssumed search.now.entries assume.now result }
+{
+    for lit in assume {
+        match search.value(*lit) {
+            None => return Assumed::Decide(*lit),
+            Some(false) => return Assumed::Denied(*lit),
+            Some(true) => {}
+        }
+    }
+    Assumed::Done
+}
+
+/// The open variable with the lowest number, with its preferred sign.
+fn first_open(search: &Search, prefer: &[bool]) -> Option<Lit>
+    requires { length prefer.now ≡ search.now.vars }
+    ensures open { IfSome result (λ l. value_in search.now.entries l ≡ None) }
+    ensures within { IfSome result (IsWithin search.now.vars) }
+    ensures none { IfNone result ((v : ℕ) → v < search.now.vars → IsSome (sign_at search.now.entries (v + 1))) }
+{
+    let mut var = 0;
+    for wish in prefer {
+        var += 1;
+        let lit = Lit { var, neg: !*wish };
+        if search.value(lit).is_none() {
+            return Some(lit);
+        }
+    }
+    None
+}
+
+/// The next decision, `None` where every variable is set.
+fn next_open(search: &Search, prefer: &[bool], order: &mut Order) -> Option<Lit>
+    requires { length prefer.now ≡ search.now.vars }
+    ensures open { IfSome result (λ l. value_in search.now.entries l ≡ None) }
+    ensures within { IfSome result (IsWithin search.now.vars) }
+    ensures none { IfNone result ((v : ℕ) → v < search.now.vars → IsSome (sign_at search.now.entries (v + 1))) }
+{
+    if let Some(lit) = order.next(search, prefer.len() as u64) {
+        return Some(lit);
+    }
+    first_open(search, prefer)
+}
+
+/// Takes back all decisions.
+fn restart(search: &mut Search)
+    ensures vars { search.new.vars ≡ search.old.vars }
+    ensures clauses { search.new.clauses ≡ search.old.clauses }
+    ensures ends { search.new.ends ≡ [] }
+    ensures shorter { length search.new.entries ≤ length search.old.entries }
+    ensures begins { take (length search.new.entries) search.old.entries ≡ search.new.entries }
+{
+    let _ = search.level();
+    search.backjump(0);
+}
+
+/// Decides, propagates and learns until there is an answer, or `budget` steps were made.
+pub fn run(
+    alloc: Global,
+    cnf: &[Clause],
+    search: &mut Search,
+    steps: &mut Vec<Step>,
+    assume: &[Lit],
+    prefer: &[bool],
+    budget: u64,
+) -> Result<Found, NoMemory>
+    requires within { AreWithin search.old.vars assume.now }
+    requires apart { is_tautology assume.now ≡ false }
+    requires prefer { length prefer.now ≡ search.old.vars }
+    requires logged { IsLogged cnf.now steps.old.items search.old }
+    ensures vars { search.new.vars ≡ search.old.vars }
+    ensures logged { IsLogged cnf.now steps.new.items search.new }
+    ensures begins { take (length steps.old.items) steps.new.items ≡ steps.old.items }
+    ensures found { IfOk result (IsFound search.new assume.now) }
+    ensures spent { IfOk result (λ r. r ≡ Found.Spent
+        → length steps.old.items + budget ≤ length steps.new.items) }
+{
+    let mut order = Order::new(alloc, prefer)?;
+    let mut restarts = Restarts::new();
+    restart(search);
+    let _ = search.level();
+    let mut made = 0;
+    'search: while made < budget {
+        match search.propagate() {
+            Some(number) => {
+                if search.level() == 0 {
+                    let explained = search.explain(alloc, number, None)?;
+                    return Ok(Found::Refuted(explained));
+                }
+                order.save(search.entries());
+                let learned = search.analyse(alloc, number)?;
+                order.bump(alloc, &learned)?;
+                search.backjump(learned.level);
+                steps.reserve(1)?;
+                search.learn(learned.lits)?;
+                steps.push_reserved(learned.step);
+                made += 1;
+                if restarts.is_due() {
+                    restart(search);
+                }
+            }
+            None => match next_assumed(search, assume) {
+                Assumed::Decide(lit) => {
+                    search.decide(lit);
+                    let _ = search.level();
+                }
+                Assumed::Denied(lit) => {
+                    let denied = lit.flipped();
+                    let Some(number) = search.reason(denied) else {
+                        unreachable!()
+                    };
+                    let explained = search.explain(alloc, number, Some(denied))?;
+                    return Ok(Found::Refuted(explained));
+                }
+                Assumed::Done => match next_open(search, prefer, &mut order) {
+                    None => return Ok(Found::Satisfied),
+                    Some(lit) => {
+                        search.decide(lit);
+                        let _ = search.level();
+                    }
+                },
+            },
+        }
+    }
+    Ok(Found::Spent)
+}
