@@ -1,0 +1,4 @@
+pub mod Local
+pub mod Growth
+pub mod Steps
+pub mod Tokens

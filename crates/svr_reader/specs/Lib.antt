@@ -1,0 +1,4 @@
+pub mod Program
+pub mod Steps
+pub mod Numbered
+pub mod Answers
