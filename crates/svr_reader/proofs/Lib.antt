@@ -2,3 +2,4 @@ pub mod Local
 pub mod Growth
 pub mod Steps
 pub mod Tokens
+pub mod Spelled

@@ -2,3 +2,4 @@ pub mod Program
 pub mod Steps
 pub mod Numbered
 pub mod Answers
+pub mod Spelled

@@ -6,9 +6,11 @@
 mod cursor;
 mod fault;
 mod fixed;
+mod spelling;
 #[cfg(test)]
 mod tests;
 
 pub use cursor::Cursor;
 pub use fault::ReadFault;
 pub use fixed::{Fixed, is_fixed};
+pub use spelling::lexemes;

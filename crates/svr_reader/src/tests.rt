@@ -1,6 +1,6 @@
-use crate::{Cursor, Fixed, ReadFault};
+use crate::{Cursor, Fixed, ReadFault, lexemes};
 use std::test::Fail;
-use svr_tree::{Lexeme, Mark, NameKind, Word};
+use svr_tree::{Kind, Lexeme, Mark, NameKind, Token, Word};
 
 // `soft a ;`
 const ITEM: [Lexeme; 3] = [
@@ -20,5 +20,18 @@ fn takes_token_by_token(rt: HostRuntime) -> Result<(), Fail> {
     assert!(rt; cursor.peek() == Some(Lexeme::Mark(Mark::Semicolon)));
     assert!(rt; cursor.expect(Fixed::Mark(Mark::Semicolon)) == Ok(()));
     assert!(rt; cursor.take() == Err(ReadFault::Unexpected(0)));
+    Ok(())
+}
+
+#[test]
+fn a_mark_is_spelled(rt: HostRuntime) -> Result<(), Fail> {
+    let token = Token {
+        kind: Kind::Mark,
+        start: 0,
+        stop: 1,
+    };
+    let found = lexemes(rt.alloc(), b";", &[token])?;
+    assert!(rt; found.len() == 1);
+    assert!(rt; found[0] == Lexeme::Mark(Mark::Semicolon));
     Ok(())
 }
