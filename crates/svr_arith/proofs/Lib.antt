@@ -1,0 +1,3 @@
+pub mod SumLemmas
+pub mod OrderLemmas
+pub mod ProductLemmas

@@ -1,0 +1,13 @@
+//! Circuits that compute with vectors of literals, least bit first (IEEE 1800-2017, clauses
+//! 11.4.3 to 11.4.5): what they give is what `svr_num` says of numbers.
+#![tactic(auto)]
+
+mod adder;
+mod memory;
+mod order;
+mod product;
+
+pub use adder::{add, neg, sub};
+pub use memory::NoMemory;
+pub use order::{equal, less};
+pub use product::mul;
