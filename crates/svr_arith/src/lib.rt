@@ -3,11 +3,16 @@
 #![tactic(auto)]
 
 mod adder;
+mod division;
 mod memory;
 mod order;
 mod product;
+mod quotient;
+#[cfg(test)]
+mod tests;
 
 pub use adder::{add, neg, sub};
 pub use memory::NoMemory;
 pub use order::{equal, less};
 pub use product::mul;
+pub use quotient::{div, rem};
