@@ -15,7 +15,7 @@ use Rattle.svr_gate.proofs.NumberLemmas.{lit_value-flip, number-nil, number-thre
 use Rattle.svr_gate.proofs.Circuits.{Tells-same}
 use Rattle.svr_gate.proofs.TableLemmas.{agree_value}
 use Rattle.svr_num.specs.Num.{less_of}
-use Rattle.svr_arith.specs.Arith.{is_below}
+use Rattle.svr_arith.specs.Order.{is_below}
 
 carry_below : (p q low : Bool) → table_value 0xe8 (bit (not p) + 2 * (bit q + 2 * bit low)) ≡ is_below p q low
 carry_below true true true = refl

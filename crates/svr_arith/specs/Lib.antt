@@ -1,2 +1,2 @@
-pub mod Arith
+pub mod Order
 pub mod Division

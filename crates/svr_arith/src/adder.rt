@@ -62,7 +62,7 @@ fn long_sum(
     ensures extends { Extends b.old b.new }
     ensures value { IfOk result (λ v. GivesNumber b.new v.items (length x.now + 1) (λ a. number a x.now + number a y.now + bit (lit_value a carry_in))) }
 {
-    let mut sum = Vec::new(alloc);
+    let mut sum = Vec::with_capacity(alloc, x.len() + 1)?;
     let mut carry = carry_in;
     for i in 0..x.len() {
         let (low, high) = full_add(b, x[i], y[i], carry)?;

@@ -1,4 +1,4 @@
-//! Quotients and remainders by restoring division.
+//! Division without signs, by restoring.
 
 ghost use Rattle.std.specs.Prelude.{◌≡◌, ◌==◌, ◌-◌, ◌+◌, ◌&&◌, length, nat_le, not, false, IfOk, if◌then◌else◌};
 ghost use Rattle.svr_chain.specs.Clauses.{IsWithin, AreWithin};
@@ -96,7 +96,12 @@ fn divide(alloc: Global, b: &mut Builder, x: &[Lit], y: &[Lit]) -> Result<Divisi
 }
 
 /// The quotient without signs, 0 at a divisor of 0.
-pub(crate) fn quotient(alloc: Global, b: &mut Builder, x: &[Lit], y: &[Lit]) -> Result<Vec<Lit>, NoMemory>
+pub(crate) fn quotient(
+    alloc: Global,
+    b: &mut Builder,
+    x: &[Lit],
+    y: &[Lit],
+) -> Result<Vec<Lit>, NoMemory>
     requires len { length x.now ≡ length y.now }
     requires x_within { AreWithin b.old.vars x.now }
     requires y_within { AreWithin b.old.vars y.now }
@@ -108,7 +113,12 @@ pub(crate) fn quotient(alloc: Global, b: &mut Builder, x: &[Lit], y: &[Lit]) -> 
 }
 
 /// The remainder without signs, 0 at a divisor of 0.
-pub(crate) fn remainder(alloc: Global, b: &mut Builder, x: &[Lit], y: &[Lit]) -> Result<Vec<Lit>, NoMemory>
+pub(crate) fn remainder(
+    alloc: Global,
+    b: &mut Builder,
+    x: &[Lit],
+    y: &[Lit],
+) -> Result<Vec<Lit>, NoMemory>
     requires len { length x.now ≡ length y.now }
     requires x_within { AreWithin b.old.vars x.now }
     requires y_within { AreWithin b.old.vars y.now }

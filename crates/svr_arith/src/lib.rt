@@ -1,5 +1,9 @@
 //! Circuits that compute with vectors of literals, least bit first (IEEE 1800-2017, clauses
-//! 11.4.3 to 11.4.5): what they give is what `svr_num` says of numbers.
+//! 11.4.3 to 11.4.5).
+//!
+//! Each call says what it gives by a definition of `svr_num`, and crates above cite nothing else:
+//! in every valuation that meets the clauses, the literals read as that number. The builder is
+//! only ever extended, after want of memory too.
 #![tactic(auto)]
 
 mod adder;

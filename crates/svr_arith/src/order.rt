@@ -6,7 +6,7 @@ ghost use Rattle.svr_chain.specs.Valuations.{lit_value};
 ghost use Rattle.svr_gate.specs.Numbers.{number};
 ghost use Rattle.svr_gate.specs.Circuit.{Extends, Tells};
 ghost use Rattle.svr_num.specs.Num.{less_of};
-ghost use Rattle.svr_arith.specs.Arith.{is_below};
+ghost use Rattle.svr_arith.specs.Order.{is_below};
 
 use crate::adder::never;
 use crate::memory::NoMemory;

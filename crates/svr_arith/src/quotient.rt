@@ -1,4 +1,4 @@
-//! Quotients and remainders, with or without a sign.
+//! Quotients and remainders: with a sign they are those of the magnitudes.
 
 ghost use Rattle.std.specs.Prelude.{◌≡◌, ◌≤◌, length, unsigned_abs, true, IfOk, if◌then◌else◌};
 ghost use Rattle.svr_chain.specs.Clauses.{IsWithin, AreWithin};
@@ -16,12 +16,7 @@ use svr_gate::{Builder, table};
 use svr_shape::choose;
 
 /// `-x` where `sign` holds, else `x`.
-fn with_sign(
-    alloc: Global,
-    b: &mut Builder,
-    sign: Lit,
-    x: &[Lit],
-) -> Result<Vec<Lit>, NoMemory>
+fn with_sign(alloc: Global, b: &mut Builder, sign: Lit, x: &[Lit]) -> Result<Vec<Lit>, NoMemory>
     requires sign_within { IsWithin b.old.vars sign }
     requires x_within { AreWithin b.old.vars x.now }
     ensures extends { Extends b.old b.new }

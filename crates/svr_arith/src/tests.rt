@@ -27,9 +27,7 @@ fn holds(lit: Lit, valuation: &[bool]) -> bool {
 
 /// Whether each clause holds.
 fn meets(cnf: &Cnf, valuation: &[bool]) -> bool {
-    cnf.clauses
-        .iter()
-        .all(|clause| clause.lits().iter().any(|lit| holds(*lit, valuation)))
+    cnf.clauses.iter().all(|clause| clause.lits().iter().any(|lit| holds(*lit, valuation)))
 }
 
 /// The valuation of all variables that the clauses settle from one of the inputs: a gate's clauses
@@ -133,10 +131,7 @@ fn circuits(rt: HostRuntime) -> Result<(), Fail> {
         assert!(rt; meets(&cnf, &valuation));
         let (x, y) = (inputs % 16, inputs / 16);
         assert_eq!(rt; read(&row, &valuation), expected(x, y));
-        assert_eq!(rt;
-            read(&divided_row, &valuation),
-            expected_divided(x, y)
-        );
+        assert_eq!(rt; read(&divided_row, &valuation), expected_divided(x, y));
     }
     Ok(())
 }

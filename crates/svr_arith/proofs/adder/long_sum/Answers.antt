@@ -7,7 +7,7 @@ use Rattle.svr_arith.proofs.SumLemmas.{ripple_step, ripple_none, within_last}
 use Rattle.svr_arith.proofs.adder.long_sum.Goals as goal
 
 pub loop-i-init : goal.loop-i-init
-loop-i-init c = record { extends = Extends-refl c.args.b.now; value = rw c.new-sum.ensures.items (ripple_none c.args.b.now c.args.x.now c.args.y.now c.args.carry_in c.requires.carry_within) }
+loop-i-init c = record { extends = Extends-refl c.args.b.now; value = rw c.in_ok-sum.ensures.items (ripple_none c.args.b.now c.args.x.now c.args.y.now c.args.carry_in c.requires.carry_within) }
 
 pub full_add-requires : goal.full_add-requires
 full_add-requires c =

@@ -31,7 +31,7 @@ loop-i-preserved c =
     let d : Lit = record { var = 0; neg = false } in
     let y = c.args.y.now in
     let next = high_zero_step c.loop-i.b c.define-in-loop-i.new.self y c.loop-i.zeros.items c.loop-i.are_zero c.in_ok-are_zero-2.are_zero d c.loop-i.i c.define-in-loop-i.ensures.extends (omega arith) c.loop-i.invariant.len c.loop-i.invariant.last
-        (subst (λ (l : Lit). Tells c.define-in-loop-i.new.self c.in_ok-are_zero-2.are_zero (λ a. table_value 0x8 (number a (c.loop-i.are_zero ∷ l ∷ [])))) c.flipped-is_zero.ensures c.in_ok-are_zero-2.ensures.value) in
+    (subst (λ (l : Lit). Tells c.define-in-loop-i.new.self c.in_ok-are_zero-2.are_zero (λ a. table_value 0x8 (number a (c.loop-i.are_zero ∷ l ∷ [])))) c.flipped-is_zero.ensures c.in_ok-are_zero-2.ensures.value) in
     record {
       extends = search later;
       last = next;

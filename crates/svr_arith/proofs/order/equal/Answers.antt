@@ -19,8 +19,8 @@ define-requires-in-loop-i c =
     let d : Lit = record { var = 0; neg = false } in
     let e = c.loop-i.invariant.extends in
     let w = AreWithin-three c.loop-i.equal (get_or c.args.x.now c.loop-i.i d) (get_or c.args.y.now c.loop-i.i d) c.loop-i.invariant.value.within
-        (IsWithin-later (get_or c.args.x.now c.loop-i.i d) e (c.requires.x_within c.loop-i.i d (omega arith)))
-        (IsWithin-later (get_or c.args.y.now c.loop-i.i d) e (c.requires.y_within c.loop-i.i d (omega arith))) in (omega arith, (omega arith, w))
+    (IsWithin-later (get_or c.args.x.now c.loop-i.i d) e (c.requires.x_within c.loop-i.i d (omega arith)))
+    (IsWithin-later (get_or c.args.y.now c.loop-i.i d) e (c.requires.y_within c.loop-i.i d (omega arith))) in (omega arith, (omega arith, w))
 
 pub returns-in_err-equal-2-clause-extends : goal.returns-in_err-equal-2-clause-extends
 returns-in_err-equal-2-clause-extends c = search later

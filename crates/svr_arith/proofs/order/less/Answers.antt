@@ -6,7 +6,7 @@ use Rattle.svr_gate.specs.Numbers.{number}
 use Rattle.svr_gate.specs.Circuit.{Tells}
 use Rattle.svr_gate.proofs.Circuits.{later}
 use Rattle.svr_num.specs.Num.{less_of}
-use Rattle.svr_arith.specs.Arith.{is_below}
+use Rattle.svr_arith.specs.Order.{is_below}
 use Rattle.svr_arith.proofs.OrderLemmas.{less_tells}
 use Rattle.svr_arith.proofs.order.less.Goals as goal
 
