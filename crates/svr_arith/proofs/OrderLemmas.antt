@@ -1,5 +1,5 @@
 -- Comparisons, place by place
-use Rattle.std.proofs.Common.{◌≡◌, ℕ, suc, ◌+◌, ◌*◌, ◌-◌, ◌^◌, ◌<◌, ◌≤◌, Bool, true, false, cond, not, ◌&&◌, ◌||◌, ltb, leb, eqb, List, [], ◌∷◌, length, take, get_or, refl, sym, ◌∙◌, ap, arith, subst, ⊎_elim, ℤ, pos, negsuc, add-one}
+use Rattle.std.proofs.Common.{◌≡◌, ℕ, suc, ◌+◌, ◌*◌, ◌-◌, ◌^◌, ◌<◌, ◌≤◌, Bool, true, false, cond, not, ◌&&◌, ltb, leb, eqb, List, [], ◌∷◌, length, take, get_or, refl, sym, ◌∙◌, ap, arith, ⊎_elim, pos, negsuc, add-one}
 use Rattle.std.specs.Prelude.{int_lt}
 use Rattle.std.proofs.lemmas.Bool.{cases_lt, cases_eq, lt-ltb, le-ltb, lt-leb, le-leb, eq-eqb, ne_eqb}
 use Rattle.std.proofs.lemmas.List.{take_all}
@@ -11,7 +11,7 @@ use Rattle.svr_chain.specs.Valuations.{lit_value}
 use Rattle.svr_gate.specs.Numbers.{bit, number}
 use Rattle.svr_gate.specs.Gates.{table_value}
 use Rattle.svr_gate.specs.Circuit.{Circuit, Extends, Tells}
-use Rattle.svr_gate.proofs.NumberLemmas.{lit_value-flip, number-nil, number-three, number_more, number-take-lt, bit-le}
+use Rattle.svr_gate.proofs.NumberLemmas.{lit_value-flip, number-three, number_more, number-take-lt, bit-le}
 use Rattle.svr_gate.proofs.Circuits.{Tells-same}
 use Rattle.svr_gate.proofs.TableLemmas.{agree_value}
 use Rattle.svr_num.specs.Num.{less_of}

@@ -1,5 +1,5 @@
 -- Quotients and remainders with a sign, by magnitudes
-use Rattle.std.proofs.Common.{◌≡◌, ℕ, zero, suc, ◌+◌, ◌-◌, ◌*◌, ◌/◌, ◌%◌, ◌^◌, ◌<◌, ◌≤◌, Bool, true, false, cond, not, ltb, leb, eqb, List, [], ◌∷◌, length, get_or, refl, sym, ◌∙◌, ap, arith, subst, ⊎_elim, ℤ, pos, negsuc, nat_abs, neg_ℤ}
+use Rattle.std.proofs.Common.{◌≡◌, ℕ, zero, suc, ◌-◌, ◌/◌, ◌%◌, ◌^◌, ◌<◌, ◌≤◌, Bool, true, false, cond, not, leb, eqb, List, [], ◌∷◌, length, get_or, refl, sym, ◌∙◌, ap, arith, subst, ⊎_elim, ℤ, pos, negsuc, nat_abs, neg_ℤ}
 use Rattle.std.specs.Prelude.{int_div, int_rem}
 use Rattle.std.proofs.lemmas.Bool.{cases_lt, cases_eq, lt-ltb, le-ltb, le-leb, lt-leb, eq-eqb, ne_eqb}
 use Rattle.std.proofs.Math.Nat.{mod-eq_of_lt, div-le_self, mod-le, zero-mod}

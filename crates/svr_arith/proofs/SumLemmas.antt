@@ -1,5 +1,5 @@
 -- Ripple-carry adders, place by place
-use Rattle.std.proofs.Common.{◌≡◌, ℕ, ◌+◌, ◌*◌, ◌^◌, ◌<◌, ◌-◌, Bool, true, false, List, [], ◌∷◌, ◌++◌, length, take, get_or, map, refl, sym, ◌∙◌, ap, arith, add-one, subst}
+use Rattle.std.proofs.Common.{◌≡◌, ℕ, ◌+◌, ◌*◌, ◌^◌, ◌<◌, Bool, List, [], ◌∷◌, ◌++◌, length, take, get_or, refl, sym, ◌∙◌, ap, arith, add-one, subst}
 use Rattle.std.proofs.lemmas.List.{length_push, take_at}
 use Rattle.std.proofs.lemmas.List.Elements.{All-push, All-head, All-tail, All-take, All-contains, Contains-push}
 use Rattle.std.proofs.Math.Nat.{pow-suc}

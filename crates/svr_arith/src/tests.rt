@@ -102,7 +102,11 @@ fn bits(number: i64) -> u64 {
 fn expected(x: u64, y: u64) -> u64 {
     let (m, n) = (signed(x), signed(y));
     let tests = (x < y) as u64 | ((m < n) as u64) << 1 | ((x == y) as u64) << 2;
-    bits(m + n) | bits(m - n) << 4 | bits(m * n) << 8 | bits(-m) << 12 | tests << 16
+    let sum = x.wrapping_add(y) % 16;
+    let difference = x.wrapping_sub(y) % 16;
+    let product = x.wrapping_mul(y) % 16;
+    let negated = x.wrapping_neg() % 16;
+    sum | difference << 4 | product << 8 | negated << 12 | tests << 16
 }
 
 /// What divisions are to read as: the four hexadecimal digits, the lowest first, are the quotient
@@ -120,18 +124,23 @@ fn expected_divided(x: u64, y: u64) -> u64 {
 fn circuits(rt: HostRuntime) -> Result<(), Fail> {
     let mut builder = Builder::new(rt.alloc(), INPUTS)?;
     let row = outputs(rt.alloc(), &mut builder)?;
-    let divided_row = divided(rt.alloc(), &mut builder)?;
     let cnf = builder.finish();
+    let mut builder = Builder::new(rt.alloc(), INPUTS)?;
+    let divided_row = divided(rt.alloc(), &mut builder)?;
+    let divided_cnf = builder.finish();
     // Without a sign 13 by 0; with a sign -8 by -1, and -7 by 2.
     for (x, y, digits) in [(13, 0, 0x0000), (8, 15, 0x0880), (9, 2, 0xfd14)] {
         assert_eq!(rt; expected_divided(x, y), digits);
     }
     for inputs in 0..256 {
+        let (x, y) = (inputs % 16, inputs / 16);
         let valuation = settled(rt.alloc(), &cnf, inputs)?;
         assert!(rt; meets(&cnf, &valuation));
-        let (x, y) = (inputs % 16, inputs / 16);
         assert_eq!(rt; read(&row, &valuation), expected(x, y));
-        assert_eq!(rt; read(&divided_row, &valuation), expected_divided(x, y));
+        let valuation = settled(rt.alloc(), &divided_cnf, inputs)?;
+        assert!(rt; meets(&divided_cnf, &valuation));
+        let digits = read(&divided_row, &valuation);
+        assert_eq!(rt; digits, expected_divided(x, y));
     }
     Ok(())
 }

@@ -1,9 +1,9 @@
-use Rattle.std.proofs.Common.{◌≡◌, ◌∙◌, ◌-◌, ◌^◌, ℕ, zero, suc, ap, refl, length, arith, sym, pos, negsuc, neg_ℤ, ◌-ℤ◌}
+use Rattle.std.proofs.Common.{◌≡◌, ◌∙◌, ◌-◌, ℕ, zero, suc, ap, refl, length, arith, pos, negsuc, neg_ℤ, ◌-ℤ◌}
 use Rattle.std.proofs.lemmas.Int.{ints}
 use Rattle.std.proofs.lemmas.Result.{IfOk-weaker}
 use Rattle.svr_gate.specs.Numbers.{number}
 use Rattle.svr_gate.specs.Circuit.{GivesNumber}
-use Rattle.svr_gate.proofs.Circuits.{later, AreWithin-later}
+use Rattle.svr_gate.proofs.Circuits.{later}
 use Rattle.svr_gate.proofs.Vectors.{GivesNumber-same, GivesNumber-width}
 use Rattle.svr_num.specs.Num.{neg_of, sub_of, residue}
 use Rattle.svr_arith.proofs.adder.neg.Goals as goal

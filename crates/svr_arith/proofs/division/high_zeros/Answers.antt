@@ -1,4 +1,4 @@
-use Rattle.std.proofs.Common.{◌≡◌, ◌∙◌, ◌-◌, ◌++◌, ◌∷◌, [], ap, subst, List, arith, length, get_or, false}
+use Rattle.std.proofs.Common.{◌≡◌, ◌∙◌, ◌++◌, ◌∷◌, [], ap, subst, List, arith, length, false}
 use Rattle.std.proofs.lemmas.List.{length_push}
 use Rattle.svr_chain.specs.declared.clause.Lit.{Lit}
 use Rattle.svr_gate.specs.Numbers.{number}

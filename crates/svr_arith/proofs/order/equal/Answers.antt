@@ -1,4 +1,4 @@
-use Rattle.std.proofs.Common.{◌∙◌, ap, sym, arith, false, take, get_or, eqb, ◌<◌}
+use Rattle.std.proofs.Common.{◌∙◌, ap, sym, arith, false, take, get_or, eqb}
 use Rattle.std.proofs.lemmas.List.{take_all}
 use Rattle.svr_chain.specs.declared.clause.Lit.{Lit}
 use Rattle.svr_gate.specs.Numbers.{number}

@@ -1,8 +1,6 @@
-use Rattle.std.proofs.Common.{◌≡◌, ◌∙◌, ap, cond, length}
-use Rattle.std.proofs.lemmas.Result.{IfOk-weaker}
+use Rattle.std.proofs.Common.{◌∙◌, ap, cond}
 use Rattle.svr_chain.specs.Valuations.{lit_value}
 use Rattle.svr_gate.specs.Numbers.{number}
-use Rattle.svr_gate.specs.Circuit.{GivesNumber}
 use Rattle.svr_gate.proofs.Circuits.{later}
 use Rattle.svr_gate.proofs.Vectors.{GivesNumber-same}
 use Rattle.svr_arith.proofs.product.masked.Goals as goal

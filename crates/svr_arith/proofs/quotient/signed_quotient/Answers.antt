@@ -1,4 +1,4 @@
-use Rattle.std.proofs.Common.{◌-◌, List, length, cond, get_or, subst, true, false}
+use Rattle.std.proofs.Common.{List, length, cond, subst, true, false}
 use Rattle.std.proofs.lemmas.Result.{IfOk-weaker}
 use Rattle.svr_chain.specs.declared.clause.Lit.{Lit}
 use Rattle.svr_chain.specs.Valuations.{lit_value}

@@ -1,4 +1,4 @@
-use Rattle.std.proofs.Common.{◌≡◌, ◌∙◌, ap, cond, length}
+use Rattle.std.proofs.Common.{◌∙◌, ap, cond, length}
 use Rattle.svr_chain.specs.Valuations.{lit_value}
 use Rattle.svr_gate.specs.Numbers.{number}
 use Rattle.svr_gate.proofs.Circuits.{later}
