@@ -98,7 +98,7 @@ signed_rem w m n s hm hn e =
     guarded w n (nat_abs y) k (residue w (int_rem z y)) s (abs_zero w n hn)
     (ap (λ b. cond b (neg_of w k) k) (e ∙ sign_bit w m) ∙ rest_sign w z y (abs_small w m hm))
 
--- a list of one width under the name of another
+-- the signs of two numbers of one width
 module _ (a : ℕ → Bool) (x y : List Lit) (d : Lit) (some : 1 ≤ length x) (len : length x ≡ length y) where
   y_small : number a y < 2 ^ length x
   y_small = subst (λ (k : ℕ). number a y < 2 ^ k) (sym len) (number-lt a y)
