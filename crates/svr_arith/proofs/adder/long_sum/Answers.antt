@@ -1,0 +1,33 @@
+use Rattle.std.proofs.Common.{get_or, arith, false}
+use Rattle.svr_chain.specs.declared.clause.Lit.{Lit}
+use Rattle.svr_chain.specs.Valuations.{lit_value}
+use Rattle.svr_gate.specs.Numbers.{bit}
+use Rattle.svr_gate.proofs.Circuits.{later, Extends-refl, IsWithin-later, AreWithin-three}
+use Rattle.svr_arith.proofs.SumLemmas.{ripple_step, ripple_none, within_last}
+use Rattle.svr_arith.proofs.adder.long_sum.Goals as goal
+
+pub loop-i-init : goal.loop-i-init
+loop-i-init c = record { extends = Extends-refl c.args.b.now; value = rw c.in_ok-sum.ensures.items (ripple_none c.args.b.now c.args.x.now c.args.y.now c.args.carry_in c.requires.carry_within) }
+
+pub full_add-requires : goal.full_add-requires
+full_add-requires c =
+    let d : Lit = record { var = 0; neg = false } in
+    let e = c.loop-i.invariant.extends in
+    AreWithin-three (get_or c.args.x.now c.loop-i.i d) (get_or c.args.y.now c.loop-i.i d) c.loop-i.carry
+    (IsWithin-later (get_or c.args.x.now c.loop-i.i d) e (c.requires.x_within c.loop-i.i d (omega arith)))
+    (IsWithin-later (get_or c.args.y.now c.loop-i.i d) e (c.requires.y_within c.loop-i.i d (omega arith)))
+    (within_last c.loop-i.sum.items c.loop-i.carry c.loop-i.invariant.value.within)
+
+pub returns-in_err-low-clause-extends : goal.returns-in_err-low-clause-extends
+returns-in_err-low-clause-extends c = search later
+
+pub returns-in_err-push-clause-extends : goal.returns-in_err-push-clause-extends
+returns-in_err-push-clause-extends c = search later
+
+pub loop-i-preserved : goal.loop-i-preserved
+loop-i-preserved c = record {
+  extends = search later;
+  value = rw c.in_ok-push.ensures.items
+      (ripple_step c.loop-i.b c.full_add.new.b c.args.x.now c.args.y.now c.loop-i.sum.items c.loop-i.carry c.in_ok-low.low c.in_ok-low.high (record { var = 0; neg = false }) c.loop-i.i (λ a. bit (lit_value a c.args.carry_in))
+      c.full_add.ensures.extends (omega arith) (omega arith) c.loop-i.invariant.value c.in_ok-low.ensures.value);
+}

@@ -1,0 +1,61 @@
+use Rattle.std.proofs.Common.{◌≡◌, ◌∙◌, ◌+◌, ◌-◌, ◌∷◌, ◌&&◌, ap, subst, sym, ℕ, List, arith, length, take, drop, get_or, cond, leb, eqb, false}
+use Rattle.svr_chain.specs.declared.clause.Lit.{Lit}
+use Rattle.svr_chain.specs.Valuations.{lit_value}
+use Rattle.svr_gate.specs.Numbers.{number}
+use Rattle.svr_gate.specs.Circuit.{Tells, GivesNumber}
+use Rattle.svr_gate.proofs.Circuits.{later, Tells-later, Tells-same, Tells-flipped}
+use Rattle.svr_gate.proofs.Vectors.{GivesNumber-width}
+use Rattle.svr_arith.proofs.DivisionLemmas.{divides_none, divides_step}
+use Rattle.svr_arith.proofs.division.divide.Goals as goal
+
+pub loop-i-init : goal.loop-i-init
+loop-i-init c = record {
+  extends = c.high_zeros.ensures.extends;
+  zeros = c.in_ok-zeros.ensures.value;
+  divides = rw (c.new-quotient.ensures.items, c.new-rest.ensures.items) (divides_none c.high_zeros.new.b c.args.x.now c.args.y.now);
+}
+
+pub returns-in_err-goes-clause-extends : goal.returns-in_err-goes-clause-extends
+returns-in_err-goes-clause-extends c = search later
+
+pub returns-in_err-insert-2-clause-extends : goal.returns-in_err-insert-2-clause-extends
+returns-in_err-insert-2-clause-extends c = search later
+
+pub loop-i-preserved : goal.loop-i-preserved
+loop-i-preserved c = record {
+  extends = search later;
+  zeros = λ t e h. Tells-later c.step.ensures.extends (c.loop-i.invariant.zeros t e h);
+  divides = rw c.in_ok-insert-2.ensures.items
+      (divides_step c.loop-i.b c.step.new.b c.args.x.now c.args.y.now c.loop-i.quotient.items c.loop-i.rest.items left fits c.in_ok-goes.goes d c.loop-i.i c.step.ensures.extends (omega arith) c.requires.len c.loop-i.invariant.divides
+      (subst (λ (l : Lit). Tells c.loop-i.b l (λ a. eqb (number a (drop (length c.args.y.now - place) c.args.y.now)) 0)) (sym c.index.ensures) (c.loop-i.invariant.zeros place fits (omega (arith, c.in_ok-zeros.ensures.len, c.requires.len))))
+      (subst (λ (ls : List Lit). Tells c.step.new.b c.in_ok-goes.goes (λ a. lit_value a fits && leb (number a low) (number a ls))) dr c.in_ok-goes.ensures.goes)
+      (subst (λ (ls : List Lit). GivesNumber c.step.new.b left (c.loop-i.i + 1) (λ a. cond (lit_value a fits && leb (number a low) (number a ls)) (number a ls - number a low) (number a ls))) dr (GivesNumber-width len c.in_ok-goes.ensures.rest)));
+} where
+  d : Lit
+  d = record { var = 0; neg = false }
+
+  place : ℕ
+  place = length c.args.x.now - 1 - c.loop-i.i
+
+  fits : Lit
+  fits = c.index.result.now
+
+  left : List Lit
+  left = c.in_ok-goes.left.items
+
+  low : List Lit
+  low = take (c.loop-i.i + 1) c.args.y.now
+
+  dr : c.deref.result.now ≡ get_or c.args.x.now place d ∷ c.loop-i.rest.items
+  dr = c.deref.ensures.value ∙ c.in_ok-insert.ensures.items
+
+  len : length c.deref.result.now ≡ c.loop-i.i + 1
+  len = ap length dr ∙ omega (arith, c.loop-i.invariant.divides.rest_len)
+
+pub returns-clause-is_defined : goal.returns-clause-is_defined
+returns-clause-is_defined c =
+    let y = c.args.y.now in
+    let zero = c.index-2.result.now in
+    let all = subst (λ (l : Lit). Tells c.loop-i.b l (λ a. eqb (number a (drop (length y - length y) y)) 0)) (sym c.index-2.ensures) (c.loop-i.invariant.zeros (length y) zero (omega (arith, c.in_ok-zeros.ensures.len))) in
+    let none : length y - length y ≡ 0 = omega arith in
+    rw c.flipped-is_defined.ensures (Tells-flipped (Tells-same (λ a. eqb (number a y) 0) all (λ a m. ap (λ k. eqb (number a (drop k y)) 0) none)))

@@ -1,0 +1,12 @@
+use Rattle.std.proofs.Common.{◌-◌, length, drop}
+use Rattle.svr_gate.specs.Numbers.{number}
+use Rattle.svr_gate.specs.Circuit.{Extends}
+use Rattle.svr_arith.specs.Division.{TellHighZeros, Divides}
+use Rattle.svr_arith.proofs.division.divide.Given as goal
+
+abbrev pub invariant-loop-i : goal.invariant-loop-i
+invariant-loop-i l = record {
+  extends : Extends l.fn.b l.b;
+  zeros : TellHighZeros l.b l.zeros.items l.y;
+  divides : Divides l.b l.quotient.items l.rest.items l.i (λ a. number a (drop (length l.x - l.i) l.x)) (λ a. number a l.y);
+}

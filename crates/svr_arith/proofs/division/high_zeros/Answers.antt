@@ -1,0 +1,41 @@
+use Rattle.std.proofs.Common.{◌≡◌, ◌∙◌, ◌++◌, ◌∷◌, [], ap, subst, List, arith, length, false}
+use Rattle.std.proofs.lemmas.List.{length_push}
+use Rattle.svr_chain.specs.declared.clause.Lit.{Lit}
+use Rattle.svr_gate.specs.Numbers.{number}
+use Rattle.svr_gate.specs.Gates.{table_value}
+use Rattle.svr_gate.specs.Circuit.{Tells}
+use Rattle.svr_gate.proofs.Circuits.{later}
+use Rattle.svr_gate.proofs.TableLemmas.{Tells-always}
+use Rattle.svr_arith.proofs.DivisionLemmas.{high_zero_none, high_zeros_none, high_zero_step, high_zeros_push}
+use Rattle.svr_arith.proofs.division.high_zeros.Goals as goal
+
+pub loop-i-init : goal.loop-i-init
+loop-i-init c =
+    let t = Tells-always c.in_ok-are_zero.ensures.value in
+    let items : c.push.new.self.items ≡ [] ++ c.in_ok-are_zero.are_zero ∷ [] = c.in_ok-push.ensures.items ∙ ap (λ (v : List Lit). v ++ c.in_ok-are_zero.are_zero ∷ []) c.new-zeros.ensures.items in
+    record {
+      extends = search later;
+      last = high_zero_none c.args.y.now t;
+      len = ap length items;
+      value = rw items (high_zeros_none c.args.y.now t);
+    }
+
+pub returns-in_err-are_zero-2-clause-extends : goal.returns-in_err-are_zero-2-clause-extends
+returns-in_err-are_zero-2-clause-extends c = search later
+
+pub returns-in_err-push-2-clause-extends : goal.returns-in_err-push-2-clause-extends
+returns-in_err-push-2-clause-extends c = search later
+
+pub loop-i-preserved : goal.loop-i-preserved
+loop-i-preserved c =
+    let d : Lit = record { var = 0; neg = false } in
+    let y = c.args.y.now in
+    let next = high_zero_step c.loop-i.b c.define-in-loop-i.new.self y c.loop-i.zeros.items c.loop-i.are_zero c.in_ok-are_zero-2.are_zero d c.loop-i.i c.define-in-loop-i.ensures.extends (omega arith) c.loop-i.invariant.len c.loop-i.invariant.last
+    (subst (λ (l : Lit). Tells c.define-in-loop-i.new.self c.in_ok-are_zero-2.are_zero (λ a. table_value 0x8 (number a (c.loop-i.are_zero ∷ l ∷ [])))) c.flipped-is_zero.ensures c.in_ok-are_zero-2.ensures.value) in
+    record {
+      extends = search later;
+      last = next;
+      len = ap length c.in_ok-push-2.ensures.items ∙ omega (arith, length_push c.loop-i.zeros.items c.in_ok-are_zero-2.are_zero, c.loop-i.invariant.len);
+      value = rw c.in_ok-push-2.ensures.items
+          (high_zeros_push c.loop-i.b c.define-in-loop-i.new.self y c.loop-i.zeros.items c.loop-i.are_zero c.in_ok-are_zero-2.are_zero d c.loop-i.i c.define-in-loop-i.ensures.extends (omega arith) c.loop-i.invariant.len c.loop-i.invariant.value next);
+    }
