@@ -1,5 +1,5 @@
 -- Learned clauses fit a search
-use Rattle.std.proofs.Common.{◌≡◌, ℕ, ◌<◌, ◌≤◌, Bool, true, false, ◌&&◌, ◌||◌, List, [], ◌∷◌, length, refl, ap, sym, ◌∙◌, arith, Option, Some, None, Result, Ok, Err, get_or, take, inl, inr, ◌⊎◌}
+use Rattle.std.proofs.Common.{◌≡◌, ℕ, ◌<◌, Bool, true, false, ◌&&◌, ◌||◌, List, [], ◌∷◌, length, refl, ap, sym, ◌∙◌, arith, Option, Some, None, Result, Ok, Err, get_or, take, inl, inr}
 use Rattle.std.specs.Prelude.{IfOk}
 use Rattle.svr_cdcl.specs.declared.memory.NoMemory.{NoMemory}
 use Rattle.std.specs.Option.{option_map}
@@ -8,7 +8,6 @@ use Rattle.std.proofs.lemmas.Bool.{or_left, or_right, or_parts, both_ways, cases
 use Rattle.std.proofs.lemmas.List.{get_or_default}
 use Rattle.svr_chain.specs.declared.clause.Lit.{Lit}
 use Rattle.svr_chain.specs.declared.log.Reason.{Reason}
-use Rattle.svr_chain.specs.declared.log.Reason.TheVariants.{Tautology, Repeated}
 use Rattle.svr_chain.specs.Clauses.{same_sign, same_lit, has, is_tautology}
 use Rattle.svr_chain.specs.Log.{judged, is_repeated, derived, step_result}
 use Rattle.svr_chain.proofs.Same.{lit-self, all-has}

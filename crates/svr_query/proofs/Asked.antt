@@ -1,11 +1,10 @@
 -- Decided literals are assumed ones, up to the first trail that makes all of these true
-use Rattle.std.proofs.Common.{◌≡◌, ℕ, suc, zero, ◌<◌, ◌≤◌, Bool, true, false, ◌&&◌, ◌||◌, not, List, [], ◌∷◌, length, refl, ap, sym, ◌∙◌, subst, arith, Option, Some, None, get_or, take, inl, inr}
-use Rattle.std.specs.Prelude.{is_none, Contains}
+use Rattle.std.proofs.Common.{◌≡◌, ℕ, ◌<◌, ◌≤◌, Bool, true, false, ◌||◌, not, List, [], length, refl, ap, sym, ◌∙◌, subst, arith, Option, Some, None, get_or, take, inl, inr}
 use Rattle.std.specs.Option.{option_map}
-use Rattle.std.proofs.lemmas.Bool.{and_parts, or_cases, cases_lt, both_ways, false≢true, false_from_ne_true}
+use Rattle.std.proofs.lemmas.Bool.{or_cases, cases_lt, both_ways, false≢true, false_from_ne_true}
 use Rattle.std.proofs.lemmas.List.{take-take, get_or-take, length-take-le, take_all}
 use Rattle.svr_chain.specs.declared.clause.Lit.{Lit}
-use Rattle.svr_chain.specs.Clauses.{same_sign, same_lit, flip, has, is_tautology}
+use Rattle.svr_chain.specs.Clauses.{same_sign, flip, has, is_tautology}
 use Rattle.svr_chain.proofs.Sound.{same_lit-true}
 use Rattle.svr_chain.proofs.Same.{all-has, any-has, any-some}
 use Rattle.svr_cdcl.specs.declared.trail.Entry.{Entry}
