@@ -211,7 +211,7 @@ module _ (ks : List (List Lit)) (es : List Entry) (base number : ℕ) (c : List 
   pub falsified-now : is_falsified es c ≡ true
   falsified-now = ap (λ z. is_falsified z c) (sym (take_all (length es) es (omega arith))) ∙ falsified-take es left (length es) c w.within w.falsified
 
-value-take_none : (es : List Entry) (j k : ℕ) (p : Lit) → j ≤ k → value_in (take k es) p ≡ None → value_in (take j es) p ≡ None
+pub value-take_none : (es : List Entry) (j k : ℕ) (p : Lit) → j ≤ k → value_in (take k es) p ≡ None → value_in (take j es) p ≡ None
 value-take_none es j k p o h = ap (option_map (λ n. same_sign n p.neg)) (sign_at-take_none es j k p.var o (sign_at-open (take k es) p h))
 
 false_but-take : (es : List Entry) (j k : ℕ) (p : Lit) (c : List Lit) → j ≤ k → is_false_but (take j es) p c ≡ true → is_false_but (take k es) p c ≡ true

@@ -7,3 +7,5 @@ pub mod Chains
 pub mod Asserting
 pub mod Reasons
 pub mod SameSearch
+pub mod Decided
+pub mod Fits

@@ -6,7 +6,7 @@ ghost use Rattle.svr_chain.specs.declared.clause.Lit.{Lit};
 ghost use Rattle.svr_chain.specs.Clauses.{AreWithin, IsWithin};
 ghost use Rattle.svr_chain.specs.Log.{step_result};
 ghost use Rattle.svr_chain.specs.Same.{SameClauses};
-ghost use Rattle.svr_cdcl.specs.Learned.{Derives, IsAsserting, IsSource, is_explained, reason_in};
+ghost use Rattle.svr_cdcl.specs.Learned.{Derives, Fits, IsAsserting, IsSource, is_explained, reason_in};
 ghost use Rattle.svr_cdcl.specs.Trail.{IsClosed, IsFault, IsGrown, IsQuiet, IsUnit, is_falsified, value_in};
 
 use crate::analyse::{Learned, analyse_over, lowest_level};
@@ -172,7 +172,7 @@ impl Search {
     }
 
     /// The clause that is learned from a false one above level 0.
-    pub fn analyse(&self, alloc: Global, number: u64) -> Result<Learned, NoMemory>
+    fn analyse_above(&self, alloc: Global, number: u64) -> Result<Learned, NoMemory>
         requires fault { IsFault self.now.clauses self.now.entries number }
         requires above { 0 < length self.now.ends }
         ensures accepted { IfOk result (λ l. step_result self.now.clauses l.step ≡ Ok l.lits) }
@@ -195,6 +195,35 @@ impl Search {
             lits: found.lits,
             step: found.step,
             level,
+        })
+    }
+
+    /// The clause that is learned from a false one: above level 0 that of the first unique implication point, and at level 0 the empty clause.
+    pub fn analyse(&self, alloc: Global, number: u64) -> Result<Learned, NoMemory>
+        requires fault { IsFault self.now.clauses self.now.entries number }
+        ensures fits { IfOk result (Fits self.now) }
+        ensures falsified { IfOk result (λ l. is_falsified self.now.entries l.lits ≡ true) }
+        ensures within { IfOk result (λ l. AreWithin self.now.vars l.lits) }
+        ensures bottom { IfOk result (λ l. length self.now.ends ≡ 0 → (l.lits ≡ []) × (l.level ≡ 0)) }
+        ensures accepted { IfOk result (λ l. 0 < length self.now.ends → step_result self.now.clauses l.step ≡ Ok l.lits) }
+        ensures level { IfOk result (λ l. 0 < length self.now.ends → l.level < length self.now.ends) }
+        ensures unit { IfOk result (λ l. 0 < length self.now.ends → IsAsserting (at_end self.now l.level) l.lits) }
+        ensures quiet { IfOk result (λ l. (j : ℕ) → j < l.level → IsQuiet (at_end self.now j) l.lits) }
+    {
+        if self.level() > 0 {
+            return self.analyse_above(alloc, number);
+        }
+        let found = explain_over(
+            alloc,
+            self.clauses.as_slice(),
+            self.trail.entries(),
+            number,
+            None,
+        )?;
+        Ok(Learned {
+            lits: found.lits,
+            step: found.step,
+            level: 0,
         })
     }
 

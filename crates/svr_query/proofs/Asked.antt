@@ -1,11 +1,10 @@
 -- Decided literals are assumed ones, up to the first trail that makes all of these true
-use Rattle.std.proofs.Common.{◌≡◌, ℕ, suc, zero, ◌<◌, ◌≤◌, Bool, true, false, ◌&&◌, ◌||◌, not, List, [], ◌∷◌, length, refl, ap, sym, ◌∙◌, subst, arith, Option, Some, None, get_or, take, inl, inr}
-use Rattle.std.specs.Prelude.{is_none, Contains}
+use Rattle.std.proofs.Common.{◌≡◌, ℕ, ◌<◌, ◌≤◌, Bool, true, false, ◌||◌, not, List, [], length, refl, ap, sym, ◌∙◌, subst, arith, Option, Some, None, get_or, take, inl, inr}
 use Rattle.std.specs.Option.{option_map}
-use Rattle.std.proofs.lemmas.Bool.{and_parts, or_cases, cases_lt, both_ways, false≢true, false_from_ne_true}
+use Rattle.std.proofs.lemmas.Bool.{or_cases, cases_lt, both_ways, false≢true, false_from_ne_true}
 use Rattle.std.proofs.lemmas.List.{take-take, get_or-take, length-take-le, take_all}
 use Rattle.svr_chain.specs.declared.clause.Lit.{Lit}
-use Rattle.svr_chain.specs.Clauses.{same_sign, same_lit, flip, has, is_tautology}
+use Rattle.svr_chain.specs.Clauses.{same_sign, flip, has, is_tautology}
 use Rattle.svr_chain.proofs.Sound.{same_lit-true}
 use Rattle.svr_chain.proofs.Same.{all-has, any-has, any-some}
 use Rattle.svr_cdcl.specs.declared.trail.Entry.{Entry}
@@ -17,6 +16,7 @@ use Rattle.svr_cdcl.proofs.Quiet.{all-weaker}
 use Rattle.svr_cdcl.proofs.Chains.{flip-flip}
 use Rattle.svr_cdcl.proofs.TableLemmas.{sign_at-take}
 use Rattle.svr_cdcl.proofs.Reasons.{decided-from_none}
+use Rattle.svr_cdcl.proofs.Decided.{none_at_0, decided-index}
 use Rattle.svr_query.specs.Logged.{is_true, are_true, IsAsked}
 use Rattle.svr_chain.specs.Log.{are_denied}
 
@@ -38,28 +38,8 @@ asked-take assume n es o a i e h =
     let at : get_or es i e ≡ get_or (take n es) i e = sym (get_or-take n es i e (omega arith)) in
     subst (λ z. IsAsked assume z (get_or (take n es) i e)) t (subst (λ z. IsAsked assume (take i es) z) at (a i e (omega arith)))
 
--- nothing is decided at level 0
-pub none_at_0 : (s : SearchView) → IsSearch s → s.ends ≡ [] → (i : ℕ) (e : Entry) → i < length s.entries → (get_or s.entries i e).reason ≡ None → ⊥
-none_at_0 s k z i e h n =
-    let c : Contains s.ends i = k.starts i e h n in
-    let l : length s.ends ≡ 0 = ap length z in
-    let b : c.0 < length s.ends = c.1 in
-    omega arith
-
 pub asked-start : (assume : List Lit) (s : SearchView) → IsSearch s → s.ends ≡ [] → Each (IsAsked assume) s.entries
 asked-start assume s k z i e h n = absurd (none_at_0 s k z i e h n)
-
-none-from : (r : Option ℕ) → is_none r ≡ true → r ≡ None
-none-from None h = refl
-none-from (Some x) h = cc
-
-pub decided-index : (es : List Entry) (l : Lit) (d : Entry) → is_decided es l ≡ true → (i : ℕ) × (i < length es) × ((get_or es i d).lit ≡ l) × ((get_or es i d).reason ≡ None)
-decided-index [] l d h = absurd (false≢true h)
-decided-index (e ∷ es) l d h =
-    elim (or_cases (same_lit e.lit l && is_none e.reason) (is_decided es l) h) [
-      | inl q ↦ let p = and_parts (same_lit e.lit l) (is_none e.reason) q in (zero, omega arith, same_lit-true e.lit l p.0, none-from e.reason p.1)
-      | inr q ↦ let r = decided-index es l d q in (suc r.0, (let b : r.0 < length es = r.1 in omega arith), r.2, r.3)
-    ]
 
 pub decided-has : (assume : List Lit) (es : List Entry) → Each (IsAsked assume) es → ((i : ℕ) → i < length es → are_true (take i es) assume ≡ true → ⊥)
     → (l : Lit) → is_decided es l ≡ true → has assume l ≡ true

@@ -1,6 +1,7 @@
 -- Logs, one step at a time
-use Rattle.std.proofs.Common.{◌≡◌, ℕ, ◌+◌, true, List, [], ◌∷◌, ◌++◌, length, ap, ◌∙◌, Some, Result, Ok, Err}
+use Rattle.std.proofs.Common.{◌≡◌, ℕ, suc, arith, ◌+◌, ◌-◌, ◌*◌, ◌<◌, true, List, [], ◌∷◌, ◌++◌, length, ap, ◌∙◌, Some, Result, Ok, Err}
 use Rattle.std.specs.List.{list_all}
+use Rattle.std.proofs.Math.Nat.{suc-mul}
 use Rattle.std.proofs.lemmas.Bool.{cond-true}
 use Rattle.svr_chain.specs.declared.clause.Lit.{Lit}
 use Rattle.svr_chain.specs.Chain.{Chain}
@@ -32,3 +33,11 @@ pub accepted-goal : (ks : List (List Lit)) (assume : List Lit) (ss : List Chain)
 accepted-goal ks assume ss known g c e m d =
     ap (λ r. elim r [ Ok z ↦ goal_verdict z (length ss + 1) assume (Some g) | Err f ↦ Rejected f.0 f.1 ]) e
     ∙ cond-true _ _ _ (ap (is_denied assume) m ∙ d)
+
+-- one step more leaves less to do, however short the trail is then
+pub one_step_more : (budget made vars len rest : ℕ) → made < budget → (budget - (made + 1)) * (vars + 1) + (vars - len) < (budget - made) * (vars + 1) + rest
+one_step_more budget made vars len rest h =
+    let n : ℕ = budget - (made + 1) in
+    let e : budget - made ≡ suc n = omega (arith, h) in
+    let m : suc n * (vars + 1) ≡ n * (vars + 1) + (vars + 1) = suc-mul n (vars + 1) in
+    rw (e, m) (omega arith)
