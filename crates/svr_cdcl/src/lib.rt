@@ -10,7 +10,6 @@ mod search;
 mod trail;
 
 pub use analyse::Learned;
-pub use explain::Explained;
 pub use memory::NoMemory;
 pub use search::Search;
 pub use trail::Entry;

@@ -11,7 +11,7 @@ use crate::memory::NoMemory;
 use crate::order::Order;
 use crate::restarts::Restarts;
 use std::alloc::Global;
-use svr_cdcl::{Explained, Search};
+use svr_cdcl::{Learned, Search};
 use svr_chain::{Clause, Lit, Step};
 
 /// What the assumed literals ask for next: a decision, the end since one of them is false, or nothing more.
@@ -26,7 +26,7 @@ pub enum Assumed {
 #[derive(Debug, Drop)]
 pub enum Found {
     Satisfied,
-    Refuted(Explained),
+    Refuted(Learned),
     Spent,
 }
 

@@ -12,7 +12,7 @@ use crate::memory::NoMemory;
 use crate::run::{Found, run};
 use std::alloc::Global;
 use std::marker::Model;
-use svr_cdcl::{Explained, Search};
+use svr_cdcl::{Learned, Search};
 use svr_chain::{Clause, Cnf, Lit, Refutation, Step, are_within};
 
 /// The answer to a question.
@@ -99,7 +99,7 @@ fn conclude(
     search: &Search,
     steps: &[Step],
     assume: &[Lit],
-    explained: Explained,
+    explained: Learned,
 ) -> Result<Refutation, NoMemory>
     requires apart { is_tautology assume.now ≡ false }
     requires logged { IsLogged cnf.now steps.now search.now }
