@@ -20,6 +20,11 @@ same_word = sameb words.the_type
 unfoldable pub same_mark : Mark → Mark → Bool
 same_mark = sameb marks.the_type
 
+-- what the word or mark is as a lexeme
+abbrev pub fixed_lexeme : Fixed → Lexeme
+fixed_lexeme (f.Word w) = l.Word w
+fixed_lexeme (f.Mark m) = l.Mark m
+
 -- the token spells the word or mark
 abbrev pub is_fixed : Fixed → Option Lexeme → Bool
 is_fixed (f.Word w) (Some (l.Word v)) = same_word v w
@@ -37,6 +42,14 @@ eaten k i = if sees k i then and_then (taken i) (λ _ j. Ok (true, j)) else Ok (
 unfoldable pub expected : Fixed → Parser (Unit {0})
 expected k i = if sees k i then and_then (taken i) (λ _ j. Ok (tt, j)) else Err (Unexpected (length i))
 
+infixl 10 ◌>>=◌
+abbrev pub ◌>>=◌ : {K : Type 0} {Ans : K → Type 0} {A B : Type 0} → Program K Ans A → (A → Program K Ans B) → Program K Ans B
+p >>= f = bind p f
+
+infixl 10 ◌>>◌
+abbrev pub ◌>>◌ : {K : Type 0} {Ans : K → Type 0} {A B : Type 0} → Program K Ans A → Program K Ans B → Program K Ans B
+p >> q = bind p (λ _. q)
+
 -- one way or the other
 abbrev pub choose : {K : Type 0} {Ans : K → Type 0} {A : Type 0} → Bool → Program K Ans A → Program K Ans A → Program K Ans A
 choose true p q = p
@@ -48,3 +61,7 @@ eat k = bind peek (λ q. choose (is_fixed k q) (bind take (λ _. pure true)) (pu
 
 unfoldable pub expect : {K : Type 0} {Ans : K → Type 0} → Fixed → Program K Ans (Unit {0})
 expect k = bind peek (λ q. choose (is_fixed k q) (bind take (λ _. pure tt)) refuse)
+
+-- one way behind the word or mark, another without it
+abbrev pub led : {K : Type 0} {Ans : K → Type 0} {A : Type 0} → Fixed → Program K Ans A → Program K Ans A → Program K Ans A
+led k p q = bind (eat k) (λ found. choose found p q)
