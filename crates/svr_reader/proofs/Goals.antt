@@ -123,3 +123,45 @@ module _ {K : Type 0} {Ans : K → Type 0} (most r : ℕ) (sub : (k : K) → Par
     settles = v.settles;
     heads = λ i y j lim h. inr (λ _ _. tt);
   }
+
+  -- what is said of fewer tokens that follow
+  pub narrow_goal : {X : Type 0} {D B C : Option Lexeme → Type 0} {Q : X → Type 0} {q : Program K Ans X} → Goal D B Q q → ((k : Option Lexeme) → C k → B k) → Goal D C Q q
+  narrow_goal {D = D} {C = C} v w = record {
+    alive = record {
+      fin = let d = v.alive.fin in record { more = d.more; x = d.x; good = d.good; opens = λ z cl. d.opens z (w (lexeme_at z) cl); ends = λ z cl. d.ends z (w (lexeme_at z) cl) };
+      later = record {
+        later = λ i e n lim h fa behind. let d = v.alive.later.later i e n lim h fa behind in record { front = d.front; j = d.j; is = d.is; len = d.len; more = d.more; x = d.x; good = d.good; ends = λ z cl. d.ends z (w (lexeme_at z) cl) };
+        safe = v.alive.later.safe;
+      };
+    };
+    settles = record { at = λ i x j lim h. let d = v.settles.at i x j lim h in record { good = d.good; front = d.front; is = d.is; closes = λ z cl. d.closes z (w (lexeme_at z) cl) } };
+    heads = λ i y j lim h. elim (v.heads i y j lim h) as (λ _. (length j < length i) ⊎ ((k : Option Lexeme) → C k → D k)) [ inl less ↦ inl less | inr u ↦ inr (λ k c. u k (w k c)) ];
+  }
+
+  pub narrow_form : {X : Type 0} {B C : Option Lexeme → Type 0} {Q : X → Type 0} {q : Program K Ans X} → Form B Q q → ((k : Option Lexeme) → C k → B k) → Form C Q q
+  narrow_form v w = record {
+    later = record {
+      later = λ i e n lim h fa behind. let d = v.later.later i e n lim h fa behind in record { front = d.front; j = d.j; is = d.is; len = d.len; more = d.more; x = d.x; good = d.good; ends = λ z cl. d.ends z (w (lexeme_at z) cl) };
+      safe = v.later.safe;
+    };
+    settles = record { at = λ i x j lim h. let d = v.settles.at i x j lim h in record { good = d.good; front = d.front; is = d.is; closes = λ z cl. d.closes z (w (lexeme_at z) cl) } };
+    consumes = v.consumes;
+  }
+
+  pub weaken_form : {X : Type 0} {C : Option Lexeme → Type 0} {P Q : X → Type 0} {q : Program K Ans X} → Form C P q → ((x : X) → P x → Q x) → Form C Q q
+  weaken_form v w = record {
+    later = record {
+      later = λ i e n lim h fa behind. let d = v.later.later i e n lim h fa behind in record { front = d.front; j = d.j; is = d.is; len = d.len; more = d.more; x = d.x; good = w d.x d.good; ends = d.ends };
+      safe = v.later.safe;
+    };
+    settles = record { at = λ i x j lim h. let d = v.settles.at i x j lim h in record { good = w x d.good; front = d.front; is = d.is; closes = d.closes } };
+    consumes = v.consumes;
+  }
+
+  -- more tokens may begin it
+  pub wide_goal : {X : Type 0} {B D C : Option Lexeme → Type 0} {Q : X → Type 0} {q : Program K Ans X} → Goal B C Q q → ((k : Option Lexeme) → B k → D k) → Goal D C Q q
+  wide_goal {D = D} {C = C} v w = record {
+    alive = record { fin = let d = v.alive.fin in record { more = d.more; x = d.x; good = d.good; opens = λ z cl. w (lexeme_at (d.more ++ z)) (d.opens z cl); ends = d.ends }; later = v.alive.later };
+    settles = v.settles;
+    heads = λ i y j lim h. elim (v.heads i y j lim h) as (λ _. (length j < length i) ⊎ ((k : Option Lexeme) → C k → D k)) [ inl less ↦ inl less | inr u ↦ inr (λ k c. w k (u k c)) ];
+  }

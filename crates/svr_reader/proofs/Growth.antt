@@ -25,8 +25,9 @@ Grown false (Err (TooDeep n)) o = o ≡ Err (TooDeep n)
 pub record Grows {A : Type 0} (wider : Bool) (p q : Parser A) : Type 0 where
   pub at : (i : List Tok) → Grown wider (p i) (q i)
 
+-- more room is room for four levels more: a construct then gets past its first token
 abbrev pub Rooms : Bool → ℕ → ℕ → Type 0
-Rooms true r r2 = suc r < r2
+Rooms true r r2 = r + 4 ≤ r2
 Rooms false r r2 = r2 ≡ r
 
 shorter : {A : Type 0} (p : Parser A) (i j : List Tok) (o : List Tok → Outcome A) → Stays p i j o → length j ≤ length i

@@ -2,5 +2,10 @@ pub mod Local
 pub mod Growth
 pub mod Steps
 pub mod Turns
+pub mod Live
+pub mod LiveLoops
+pub mod Goals
+pub mod Led
+pub mod Rooms
 pub mod Tokens
 pub mod Spelled

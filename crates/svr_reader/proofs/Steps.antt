@@ -14,7 +14,7 @@ use Rattle.svr_reader.specs.declared.fixed.Fixed.{Fixed}
 use Rattle.svr_reader.specs.declared.fixed.Fixed.TheVariants as f
 use Rattle.svr_reader.specs.declared.fault.ReadFault.TheVariants.{NoMemory, Unexpected, TooDeep}
 use Rattle.svr_reader.specs.Program.{Turn, go, done, Program, pure, bind, refuse, take, Outcome, Parser, and_then, lexeme_at, taken, entered, turned, run}
-use Rattle.svr_reader.specs.Steps.{same_word, same_mark, fixed_lexeme, is_fixed, sees, eaten, expected, choose, eat, expect}
+use Rattle.svr_reader.specs.Steps.{same_word, same_mark, fixed_lexeme, is_fixed, sees, eaten, expected, choose, eat, expect, led}
 
 -- ---- outcomes
 
@@ -117,6 +117,15 @@ fixed_is (f.Word w) (Some (l.Word v)) h = ap (λ z. Some (l.Word z)) (same_word_
 fixed_is (f.Mark m) (Some (l.Mark v)) h = ap (λ z. Some (l.Mark z)) (same_mark_is v m h)
 fixed_is _ _ h = absurd (cc)
 
+-- the same of a token that is there
+pub fixed_token : (k : Fixed) (q : Lexeme) → is_fixed k (Some q) ≡ true → q ≡ fixed_lexeme k
+fixed_token k q h = let is : Some q ≡ Some (fixed_lexeme k) = fixed_is k (Some q) h in cc
+
+-- the end of the text is no word or mark
+pub fixed_none : (k : Fixed) → is_fixed k None ≡ false
+fixed_none (f.Word w) = refl
+fixed_none (f.Mark m) = refl
+
 fixed_self_by : (k : Fixed) → is_fixed k (Some (fixed_lexeme k)) ≡ true
 fixed_self_by (f.Word w) = same_word_self w
 fixed_self_by (f.Mark m) = same_mark_self m
@@ -190,14 +199,14 @@ module _ {K : Type 0} {Ans : K → Type 0} (most r : ℕ) (sub : (k : K) → Par
   unfolding expect
   expect_ok k [] y h = choose_ok (is_fixed k None) (bind take (λ _. pure tt)) refuse [] (Ok y) h (λ w e. absurd (cc)) (λ w e. absurd (cc))
   expect_ok k (t ∷ i) y h = choose_ok (is_fixed k (Some t.lexeme)) (bind take (λ _. pure tt)) refuse (t ∷ i) (Ok y) h
-      (λ w e. let is : Some t.lexeme ≡ Some (fixed_lexeme k) = fixed_is k (Some t.lexeme) w in let same : ◌≡◌ {A = Unit {0} × List Tok} (tt, i) y = cc in (cc, ap (λ z. z.1) same))
+      (λ w e. let same : ◌≡◌ {A = Unit {0} × List Tok} (tt, i) y = cc in (fixed_token k t.lexeme w, ap (λ z. z.1) same))
       (λ w e. absurd (cc))
 
   pub eat_ok : (k : Fixed) (i : List Tok) (y : Bool × List Tok) → R (eat k) i ≡ Ok y → Saw k i y.0 y.1
   unfolding eat
   eat_ok k [] y h = choose_ok (is_fixed k None) (bind take (λ _. pure true)) (pure false) [] (Ok y) h (λ w e. absurd (cc)) (λ w e. yields (Saw k []) false [] y e (refl, w))
   eat_ok k (t ∷ i) y h = choose_ok (is_fixed k (Some t.lexeme)) (bind take (λ _. pure true)) (pure false) (t ∷ i) (Ok y) h
-      (λ w e. let is : Some t.lexeme ≡ Some (fixed_lexeme k) = fixed_is k (Some t.lexeme) w in yields (Saw k (t ∷ i)) true i y e (cc, refl))
+      (λ w e. yields (Saw k (t ∷ i)) true i y e (fixed_token k t.lexeme w, refl))
       (λ w e. yields (Saw k (t ∷ i)) false (t ∷ i) y e (refl, w))
 
   -- the token stands there
@@ -214,3 +223,38 @@ module _ {K : Type 0} {Ans : K → Type 0} (most r : ℕ) (sub : (k : K) → Par
   pub eat_not : (k : Fixed) (i : List Tok) → sees k i ≡ false → R (eat k) i ≡ Ok (false, i)
   unfolding eat
   eat_not k i h = choose_false _ _ _ i h
+
+  -- ---- one way behind a word or mark, another without it
+
+  module _ {A : Type 0} (k : Fixed) (p q : Program K Ans A) where
+    pub led_yes : (t : Tok) (z : List Tok) → t.lexeme ≡ fixed_lexeme k → R (led k p q) (t ∷ z) ≡ R p z
+    unfolding eat
+    led_yes t z h = by (is_fixed k (Some t.lexeme)) (fixed_self k (Some t.lexeme) (ap Some h))
+      where
+        by : (b : Bool) → b ≡ true → and_then (R (choose b (bind take (λ _. pure true)) (pure false)) (t ∷ z)) (λ f. R (choose f p q)) ≡ R p z
+        by true e = refl
+        by false e = absurd (cc)
+
+    pub led_no : (z : List Tok) → sees k z ≡ false → R (led k p q) z ≡ R q z
+    unfolding eat
+    led_no z h = by (is_fixed k (lexeme_at z)) h
+      where
+        by : (b : Bool) → b ≡ false → and_then (R (choose b (bind take (λ _. pure true)) (pure false)) z) (λ f. R (choose f p q)) ≡ R q z
+        by true e = absurd (cc)
+        by false e = refl
+
+    pub led_takes : (i mid : List Tok) → FitEach i (Any (fixed_lexeme k) ∷ []) mid → R (led k p q) i ≡ R p mid
+    led_takes [] mid h = absurd h
+    led_takes (t ∷ i) mid h = led_yes t i h.0 ∙ ap (λ z. R p z) h.1
+
+    pub led_cases : {Y : Type 0} (i : List Tok) (o : Outcome A) → R (led k p q) i ≡ o → ((t : Tok) (z : List Tok) → i ≡ t ∷ z → t.lexeme ≡ fixed_lexeme k → R p z ≡ o → Y) → (sees k i ≡ false → R q i ≡ o → Y) → Y
+    led_cases [] o h f g = g (fixed_none k) (sym (led_no [] (fixed_none k)) ∙ h)
+    led_cases {Y = Y} (t ∷ i) o h f g = by (is_fixed k (Some t.lexeme)) refl
+      where
+        by : (b : Bool) → is_fixed k (Some t.lexeme) ≡ b → Y
+        by true w = let is = fixed_token k t.lexeme w in f t i refl is (sym (led_yes t i is) ∙ h)
+        by false w = g w (sym (led_no (t ∷ i) w) ∙ h)
+
+    -- the token was taken, or something else stands there
+    pub led_ok : {Y : Type 0} (i : List Tok) (y : A × List Tok) → R (led k p q) i ≡ Ok y → ((mid : List Tok) → FitEach i (Any (fixed_lexeme k) ∷ []) mid → R p mid ≡ Ok y → Y) → (sees k i ≡ false → R q i ≡ Ok y → Y) → Y
+    led_ok i y h f g = led_cases i (Ok y) h (λ t z is w e. f z (subst (λ v. FitEach v (Any (fixed_lexeme k) ∷ []) z) (sym is) (w, refl)) e) g
