@@ -3,3 +3,4 @@ pub mod Steps
 pub mod Numbered
 pub mod Answers
 pub mod Spelled
+pub mod Lists
