@@ -4,11 +4,11 @@ use Rattle.svr_token.specs.declared.Lexeme.{Lexeme}
 use Rattle.svr_token.specs.declared.Lexeme.TheVariants as lexeme
 use Rattle.svr_token.specs.declared.Word.TheVariants as w
 use Rattle.svr_token.specs.declared.Mark.TheVariants as m
+use Rattle.svr_token.specs.declared.NameKind.{NameKind}
 use Rattle.svr_token.specs.declared.SystemName.{SystemName}
 use Rattle.svr_token.specs.declared.SystemName.TheVariants as system
 use Rattle.svr_typed.specs.declared.UnOp.{UnOp}
 use Rattle.svr_typed.specs.declared.BinOp.{BinOp}
-use Rattle.svr_typed.specs.declared.BinOp.TheVariants as b
 use Rattle.svr_tree.specs.declared.expr.Scope.{Scope}
 use Rattle.svr_tree.specs.declared.expr.Scope.TheVariants as scope
 use Rattle.svr_tree.specs.ExprTree.{ExprTree, number, path, bit_select, part_select, unary, binary, choice, inside, join, copies, sign, paren, RangeTree, one, span, BoundTree, value, dollar, exprs_of, ranges_of}
@@ -28,54 +28,68 @@ Reader A = Program ℕ (λ _. Tall ExprTree) A
 
 -- ---- names and paths
 
+-- NAME, and of which kind it is
+abbrev pub known_name_by : {K : Type 0} {Ans : K → Type 0} → Option Lexeme → Program K Ans (ℕ × NameKind)
+known_name_by (Some (lexeme.Name k)) = do
+  n ← take
+  pure (n, k)
+known_name_by _ = refuse
+
+unfoldable pub known_name : {K : Type 0} {Ans : K → Type 0} → Program K Ans (ℕ × NameKind)
+known_name = peek >>= known_name_by
+
 -- NAME
-abbrev pub name_by : {K : Type 0} {Ans : K → Type 0} → Option Lexeme → Program K Ans ℕ
-name_by (Some (lexeme.Name k)) = take
-name_by _ = refuse
-
 unfoldable pub name : {K : Type 0} {Ans : K → Type 0} → Program K Ans ℕ
-name = peek >>= name_by
+name = do
+  n ← known_name
+  pure n.0
 
-unfoldable pub name_step : {K : Type 0} {Ans : K → Type 0} → List ℕ → Program K Ans (Turn (List ℕ) (List ℕ))
-name_step found = led (f.Mark m.Dot) (do
-  n ← name
-  pure (go (found ++ n ∷ []))) (pure (done found))
+unfoldable pub name_step : {K : Type 0} {Ans : K → Type 0} → List ℕ × NameKind → Program K Ans (Turn (List ℕ × NameKind) (List ℕ × NameKind))
+name_step s = led (f.Mark m.Dot) (do
+  n ← known_name
+  pure (go (s.0 ++ n.0 ∷ [], n.1))) (pure (done s))
 
--- { "." NAME }, behind the names that were read
-unfoldable pub names : {K : Type 0} {Ans : K → Type 0} → List ℕ → Program K Ans (List ℕ)
-names found = loop name_step found
+-- { "." NAME }, behind a first name: all names, and the kind of the last one
+unfoldable pub names_on : {K : Type 0} {Ans : K → Type 0} → ℕ × NameKind → Program K Ans (List ℕ × NameKind)
+names_on first = loop name_step (first.0 ∷ [], first.1)
 
 -- NAME { "." NAME }, of a path that begins at this token
-unfoldable pub path_from : ℕ → Scope → Reader (Tall ExprTree)
+unfoldable pub path_from : {K : Type 0} {Ans : K → Type 0} → ℕ → Scope → Program K Ans (ExprTree × NameKind)
 path_from at s = do
-  first ← name
-  ns ← names (first ∷ [])
-  pure (path at s ns false, 1)
+  first ← known_name
+  ns ← names_on first
+  pure (path at s ns.0 false, ns.1)
 
-unfoldable pub plain_path : Reader (Tall ExprTree)
+unfoldable pub plain_path : {K : Type 0} {Ans : K → Type 0} → Program K Ans (ExprTree × NameKind)
 plain_path = do
   at ← here
   path_from at scope.Plain
 
-unfoldable pub local_path : Reader (Tall ExprTree)
+unfoldable pub local_path : {K : Type 0} {Ans : K → Type 0} → Program K Ans (ExprTree × NameKind)
 local_path = do
   at ← take
   expect (f.Mark m.DoubleColon)
   path_from at scope.Local
 
-unfoldable pub this_path : Reader (Tall ExprTree)
+unfoldable pub this_path : {K : Type 0} {Ans : K → Type 0} → Program K Ans (ExprTree × NameKind)
 this_path = do
   at ← take
   expect (f.Mark m.Dot)
   path_from at scope.This
 
-abbrev pub path_by : Option Lexeme → Reader (Tall ExprTree)
-path_by (Some (lexeme.Word w.Local)) = local_path
-path_by (Some (lexeme.Word w.This)) = this_path
-path_by _ = plain_path
+abbrev pub known_path_by : {K : Type 0} {Ans : K → Type 0} → Option Lexeme → Program K Ans (ExprTree × NameKind)
+known_path_by (Some (lexeme.Word w.Local)) = local_path
+known_path_by (Some (lexeme.Word w.This)) = this_path
+known_path_by _ = plain_path
+
+-- a path, and the kind of its last name
+unfoldable pub known_path : {K : Type 0} {Ans : K → Type 0} → Program K Ans (ExprTree × NameKind)
+known_path = peek >>= known_path_by
 
 unfoldable pub path_in : Reader (Tall ExprTree)
-path_in = peek >>= path_by
+path_in = do
+  p ← known_path
+  pure (p.0, 1)
 
 -- path { "[" expr "]" }
 unfoldable pub indexed : ℕ → Tall ExprTree → Reader (Tall ExprTree)
@@ -323,8 +337,8 @@ pub data Node : Type 0 where
   a_member : Node
   -- an expression whose first path, which begins at this token, was read already
   rest_of : ℕ → Tall ExprTree → Node
-  -- "<->" expr, behind this left operand, which begins at this token
-  equivalent_to : ℕ → Tall ExprTree → Node
+  -- an expression whose first operand, which begins at this token, was read already
+  links_of : ℕ → Tall ExprTree → Node
 
 abbrev pub node_in : Node → Reader (Tall ExprTree)
 node_in (an_expr least) = expr_in least
@@ -333,7 +347,7 @@ node_in a_member = member_in
 node_in (rest_of at first) = do
   whole ← with_suffixes at first
   climb at 1 whole
-node_in (equivalent_to at left) = extend at left (link.Binary b.Equivalent)
+node_in (links_of at first) = climb at 1 first
 
 -- what an expression begins with
 abbrev pub is_operator : Option UnOp → Bool
@@ -359,7 +373,7 @@ node_starts (an_expr least) l = starts l
 node_starts a_path l = starts_path l
 node_starts a_member l = starts_path l
 node_starts (rest_of at first) l = false
-node_starts (equivalent_to at left) l = false
+node_starts (links_of at first) l = false
 
 -- a node of a height up to the second number. No list is longer than the first number
 unfoldable pub node : ℕ → ℕ → Node → Parser (Tall ExprTree)
@@ -368,6 +382,11 @@ node most (suc r) k i = run most r (λ least. node most r (an_expr least)) (node
 
 abbrev pub expr : ℕ → ℕ → ℕ → Parser (Tall ExprTree)
 expr most r least = node most r (an_expr least)
+
+-- a path, and the kind of its last name, where a node may be as high as the second number
+unfoldable pub a_known_path : ℕ → ℕ → Parser (ExprTree × NameKind)
+a_known_path most zero i = no_room starts_path i
+a_known_path most (suc r) i = run most r (expr most r) known_path i
 
 -- lists and ranges of expressions of a height up to the second number
 unfoldable pub some_exprs : ℕ → ℕ → Parser (Tall (List ExprTree))
