@@ -6,7 +6,8 @@ use Rattle.svr_reader.specs.declared.fixed.Fixed.{Fixed}
 use Rattle.svr_reader.specs.declared.fault.ReadFault.{ReadFault}
 use Rattle.svr_reader.specs.declared.fault.ReadFault.TheVariants.{NoMemory, Unexpected, TooDeep}
 use Rattle.svr_reader.specs.Program.{Turn, go, done, Program, pure, bind, refuse, peek, take, loop, Outcome, Parser, and_then, lexeme_at, run}
-use Rattle.svr_reader.specs.Steps.{fixed_lexeme, is_fixed, sees, choose, eat, expect, led}
+use Rattle.svr_reader.specs.Steps.{fixed_lexeme, is_fixed, sees, choose, eat, expect}
+use Rattle.svr_reader.specs.Lists.{led}
 use Rattle.svr_reader.proofs.Steps.{expects, led_yes, led_no, led_cases}
 use Rattle.svr_reader.proofs.Local.{IsLocal, local_run}
 use Rattle.svr_reader.proofs.Live.{FaultsAt, AnyToken, Completes, Later, Finishes, Settled, Settles, Heads, Consumes, all_of, behind_token, settled_token, same_front, ok_shorter}

@@ -7,5 +7,8 @@ pub mod LiveLoops
 pub mod Goals
 pub mod Led
 pub mod Rooms
+pub mod Layers
+pub mod Lists
+pub mod LiveLists
 pub mod Tokens
 pub mod Spelled

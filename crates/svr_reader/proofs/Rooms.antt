@@ -5,7 +5,7 @@ use Rattle.svr_tree.specs.Tokens.{Tok}
 use Rattle.svr_reader.specs.declared.fault.ReadFault.{ReadFault}
 use Rattle.svr_reader.specs.declared.fault.ReadFault.TheVariants.{NoMemory, Unexpected, TooDeep}
 use Rattle.svr_reader.specs.Program.{Program, pure, bind, refuse, peek, here, take, enter, call, Parser, and_then, lexeme_at, number_at, entered, run}
-use Rattle.svr_reader.specs.Steps.{no_room}
+use Rattle.svr_reader.specs.Lists.{no_room}
 use Rattle.svr_reader.proofs.Steps.{when, entered_is}
 use Rattle.svr_reader.proofs.Local.{IsLocal, StaysFor, same_lexeme, local_run}
 use Rattle.svr_reader.proofs.Growth.{Past, past_by, past_then, Grown, Grows}

@@ -14,7 +14,8 @@ use Rattle.svr_reader.specs.declared.fixed.Fixed.{Fixed}
 use Rattle.svr_reader.specs.declared.fixed.Fixed.TheVariants as f
 use Rattle.svr_reader.specs.declared.fault.ReadFault.TheVariants.{NoMemory, Unexpected, TooDeep}
 use Rattle.svr_reader.specs.Program.{Turn, go, done, Program, pure, bind, refuse, take, Outcome, Parser, and_then, lexeme_at, taken, entered, turned, run}
-use Rattle.svr_reader.specs.Steps.{same_word, same_mark, fixed_lexeme, is_fixed, sees, eaten, expected, choose, eat, expect, led}
+use Rattle.svr_reader.specs.Steps.{same_word, same_mark, fixed_lexeme, is_fixed, sees, eaten, expected, choose, eat, expect}
+use Rattle.svr_reader.specs.Lists.{led}
 
 -- ---- outcomes
 

@@ -1,6 +1,6 @@
 pub mod Program
 pub mod Steps
-pub mod Lists
 pub mod Numbered
 pub mod Answers
 pub mod Spelled
+pub mod Lists

@@ -10,7 +10,7 @@ use Rattle.svr_token.specs.contracts.Mark as marks
 use Rattle.svr_tree.specs.Tokens.{Tok}
 use Rattle.svr_reader.specs.declared.fixed.Fixed.{Fixed}
 use Rattle.svr_reader.specs.declared.fixed.Fixed.TheVariants as f
-use Rattle.svr_reader.specs.declared.fault.ReadFault.TheVariants.{Unexpected, TooDeep}
+use Rattle.svr_reader.specs.declared.fault.ReadFault.TheVariants.{Unexpected}
 use Rattle.svr_reader.specs.Program.{Program, pure, bind, refuse, peek, take, Parser, and_then, lexeme_at, taken}
 
 -- `==` on words and on marks
@@ -42,14 +42,6 @@ eaten k i = if sees k i then and_then (taken i) (λ _ j. Ok (true, j)) else Ok (
 unfoldable pub expected : Fixed → Parser (Unit {0})
 expected k i = if sees k i then and_then (taken i) (λ _ j. Ok (tt, j)) else Err (Unexpected (length i))
 
-infixl 10 ◌>>=◌
-abbrev pub ◌>>=◌ : {K : Type 0} {Ans : K → Type 0} {A B : Type 0} → Program K Ans A → (A → Program K Ans B) → Program K Ans B
-p >>= f = bind p f
-
-infixl 10 ◌>>◌
-abbrev pub ◌>>◌ : {K : Type 0} {Ans : K → Type 0} {A B : Type 0} → Program K Ans A → Program K Ans B → Program K Ans B
-p >> q = bind p (λ _. q)
-
 -- one way or the other
 abbrev pub choose : {K : Type 0} {Ans : K → Type 0} {A : Type 0} → Bool → Program K Ans A → Program K Ans A → Program K Ans A
 choose true p q = p
@@ -61,11 +53,3 @@ eat k = bind peek (λ q. choose (is_fixed k q) (bind take (λ _. pure true)) (pu
 
 unfoldable pub expect : {K : Type 0} {Ans : K → Type 0} → Fixed → Program K Ans (Unit {0})
 expect k = bind peek (λ q. choose (is_fixed k q) (bind take (λ _. pure tt)) refuse)
-
--- one way behind the word or mark, another without it
-abbrev pub led : {K : Type 0} {Ans : K → Type 0} {A : Type 0} → Fixed → Program K Ans A → Program K Ans A → Program K Ans A
-led k p q = bind (eat k) (λ found. choose found p q)
-
--- in place of a construct for which there is no room: f says of each token whether it can begin one
-abbrev pub no_room : {A : Type 0} → (Option Lexeme → Bool) → Parser A
-no_room f i = if f (lexeme_at i) then Err (TooDeep (length i)) else Err (Unexpected (length i))
