@@ -1,13 +1,11 @@
 -- Programs that can be completed wherever they fail: one line for a production.
-use Rattle.std.proofs.Common.{◌≡◌, ℕ, zero, suc, ◌+◌, ◌<◌, ◌≤◌, Bool, true, false, List, [], ◌∷◌, ◌++◌, length, Option, Some, None, Result, Ok, Err, cond, ◌⊎◌, inl, inr, refl, sym, ◌∙◌, ap, subst, arith, rules, append_assoc, length-append}
+use Rattle.std.proofs.Common.{◌≡◌, ℕ, zero, suc, ◌<◌, ◌≤◌, List, [], ◌++◌, length, Option, Ok, ◌⊎◌, inl, inr, refl, subst, arith}
 use Rattle.svr_token.specs.declared.Lexeme.{Lexeme}
 use Rattle.svr_tree.specs.Tokens.{Tok}
-use Rattle.svr_reader.specs.declared.fault.ReadFault.{ReadFault}
-use Rattle.svr_reader.specs.declared.fault.ReadFault.TheVariants.{NoMemory, Unexpected, TooDeep}
-use Rattle.svr_reader.specs.Program.{Turn, go, done, Program, pure, bind, refuse, peek, here, take, enter, call, loop, Outcome, Parser, lexeme_at, number_at, run}
+use Rattle.svr_reader.specs.Program.{Turn, Program, pure, bind, refuse, peek, here, take, enter, loop, Outcome, Parser, lexeme_at, number_at, run}
 use Rattle.svr_reader.proofs.Steps.{bind_ok}
 use Rattle.svr_reader.proofs.Local.{IsLocal, local_run}
-use Rattle.svr_reader.proofs.Live.{FaultsAt, AnyToken, Completes, Later, Finishes, Alive, Settled, Settles, Heads, Consumes, alive_bind, alive_pure, later_bind, later_refuse, later_take, later_peek, later_here, later_enter, settles_bind, heads_bind, settles_take, take_consumes, settles_enter, enter_consumes, settles_peek, settles_here, ok_shorter}
+use Rattle.svr_reader.proofs.Live.{AnyToken, Later, Finishes, Alive, Settled, Settles, Heads, Consumes, alive_bind, alive_pure, later_bind, later_refuse, later_take, later_peek, later_here, later_enter, settles_bind, heads_bind, settles_take, take_consumes, settles_enter, enter_consumes, settles_peek, settles_here, ok_shorter}
 use Rattle.svr_reader.proofs.LiveLoops.{Turns, alive_turns, settles_turns}
 
 module _ {K : Type 0} {Ans : K → Type 0} (most r : ℕ) (sub : (k : K) → Parser (Ans k)) (ls : (k : K) → IsLocal (sub k)) where

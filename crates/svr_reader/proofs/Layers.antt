@@ -1,10 +1,11 @@
 -- What a construct is for those that call for it.
-use Rattle.std.proofs.Common.{◌≡◌, ℕ, ◌+◌, ◌<◌, ◌≤◌, List, length, Option, Ok}
+use Rattle.std.proofs.Common.{◌≡◌, ℕ, ◌+◌, ◌≤◌, Bool, List, length, Option, Ok}
 use Rattle.svr_token.specs.declared.Lexeme.{Lexeme}
 use Rattle.svr_tree.specs.Tokens.{Tok, Entry, FitEach}
-use Rattle.svr_reader.specs.Program.{Program, call, Parser, lexeme_at}
+use Rattle.svr_reader.specs.Program.{call, Parser, lexeme_at}
 use Rattle.svr_reader.specs.Lists.{Tall}
 use Rattle.svr_reader.proofs.Local.{IsLocal}
+use Rattle.svr_reader.proofs.Growth.{Grows, Rooms}
 use Rattle.svr_reader.proofs.Live.{Later, Settles, Consumes, Alive, Heads}
 use Rattle.svr_reader.proofs.Goals.{Goal, Form}
 
@@ -34,6 +35,10 @@ pub record IsOpen {X : Type 0} (most : ℕ) (D C : Option Lexeme → Type 0) (Q 
   pub alive : Alive most D C Q p
   pub settles : Settles most C Q p
   pub heads : Heads most D C p
+
+-- what it gives with fewer turns and less room it gives with more, wants of room aside
+abbrev pub IsGrowing : {X : Type 0} → (ℕ → ℕ → Parser X) → Type 0
+IsGrowing p = (wider : Bool) (n n2 r r2 : ℕ) → n ≤ n2 → Rooms wider r r2 → Grows wider (p n r) (p n2 r2)
 
 -- bounds of a height
 abbrev pub Low : {X : Type 0} → ℕ → Tall X → Type 0

@@ -1,16 +1,16 @@
 -- What is read behind a word or mark, or without it.
-use Rattle.std.proofs.Common.{◌≡◌, ℕ, suc, ◌+◌, ◌<◌, ◌≤◌, Bool, true, false, List, [], ◌∷◌, ◌++◌, length, Option, Some, None, Result, Ok, Err, cond, ◌⊎◌, inl, inr, refl, sym, ◌∙◌, ap, subst, arith}
+use Rattle.std.proofs.Common.{◌≡◌, ℕ, ◌<◌, Bool, true, false, List, [], ◌∷◌, ◌++◌, length, Option, Some, Ok, Err, inr, refl, sym, ◌∙◌, ap, subst, arith}
 use Rattle.svr_token.specs.declared.Lexeme.{Lexeme}
 use Rattle.svr_tree.specs.Tokens.{Tok}
 use Rattle.svr_reader.specs.declared.fixed.Fixed.{Fixed}
 use Rattle.svr_reader.specs.declared.fault.ReadFault.{ReadFault}
-use Rattle.svr_reader.specs.declared.fault.ReadFault.TheVariants.{NoMemory, Unexpected, TooDeep}
-use Rattle.svr_reader.specs.Program.{Turn, go, done, Program, pure, bind, refuse, peek, take, loop, Outcome, Parser, and_then, lexeme_at, run}
-use Rattle.svr_reader.specs.Steps.{fixed_lexeme, is_fixed, sees, choose, eat, expect}
+use Rattle.svr_reader.specs.declared.fault.ReadFault.TheVariants.{NoMemory}
+use Rattle.svr_reader.specs.Program.{Turn, go, done, Program, pure, Parser, lexeme_at, run}
+use Rattle.svr_reader.specs.Steps.{fixed_lexeme, is_fixed, choose, expect}
 use Rattle.svr_reader.specs.Lists.{led}
 use Rattle.svr_reader.proofs.Steps.{expects, led_yes, led_no, led_cases}
 use Rattle.svr_reader.proofs.Local.{IsLocal, local_run}
-use Rattle.svr_reader.proofs.Live.{FaultsAt, AnyToken, Completes, Later, Finishes, Settled, Settles, Heads, Consumes, all_of, behind_token, settled_token, same_front, ok_shorter}
+use Rattle.svr_reader.proofs.Live.{FaultsAt, AnyToken, Completes, Finishes, Settled, all_of, behind_token, settled_token, same_front, ok_shorter}
 use Rattle.svr_reader.proofs.LiveLoops.{Then, Done, Turns}
 use Rattle.svr_reader.proofs.Goals.{Goal, Form, goal_of, pure_goal, take_form, peek_form, refuse_form}
 
@@ -51,48 +51,70 @@ module _ {K : Type 0} {Ans : K → Type 0} (most r : ℕ) (sub : (k : K) → Par
       -- both ways take a token
       pub led_form : Form most r sub ls C Q q → Form most r sub ls C Q (led k p q)
       led_form u = record {
-          later = record {
-            later = λ i e n lim h fa behind. led_cases most r sub k p q i (Err e) h
+        later = record {
+          later = λ i e n lim h fa behind. led_cases most r sub k p q i (Err e) h
               (λ t z is w g. led_behind i e n t z lim is w g fa)
-              (λ w g. let d = u.later.later i e n lim g fa behind in record { front = d.front; j = d.j; is = d.is; len = d.len; more = d.more; x = d.x; good = d.good;
-                ends = λ s cl. led_no most r sub k p q (d.front ++ (d.more ++ s)) (ap (is_fixed k) (same_front most C C Q i d.front d.j (d.more ++ s) d.is (omega (arith, behind, d.len))) ∙ w) ∙ d.ends s cl });
-            safe = λ i lim h. led_cases most r sub k p q i (Err NoMemory) h
+              (λ w g. let d = u.later.later i e n lim g fa behind in record {
+                front = d.front;
+                j = d.j;
+                is = d.is;
+                len = d.len;
+                more = d.more;
+                x = d.x;
+                good = d.good;
+                ends = λ s cl. led_no most r sub k p q (d.front ++ (d.more ++ s)) (ap (is_fixed k) (same_front most C C Q i d.front d.j (d.more ++ s) d.is (omega (arith, behind, d.len))) ∙ w) ∙ d.ends s cl;
+              });
+          safe = λ i lim h. led_cases most r sub k p q i (Err NoMemory) h
               (λ t z is w g. v.alive.later.safe z (omega (arith, lim, ap length is)) g)
-              (λ w g. u.later.safe i lim g) };
-          settles = record { at = λ i x j lim h. led_cases most r sub k p q i (Ok (x, j)) h
+              (λ w g. u.later.safe i lim g);
+        };
+        settles = record {
+          at = λ i x j lim h. led_cases most r sub k p q i (Ok (x, j)) h
               (λ t z is w g. led_settled i x j t z lim is w g)
-              (λ w g. let d = u.settles.at i x j lim g in let less = u.consumes i x j g in record { good = d.good; front = d.front; is = d.is;
-                closes = λ s cl. led_no most r sub k p q (d.front ++ s) (ap (is_fixed k) (same_front most C C Q i d.front j s d.is less) ∙ w) ∙ d.closes s cl }) };
-          consumes = λ i x j h. led_cases most r sub k p q i (Ok (x, j)) h
-              (λ t z is w g. let less = ok_shorter (R p) (lo p) z x j g in omega (arith, less, ap length is))
-              (λ w g. u.consumes i x j g) }
+              (λ w g. let d = u.settles.at i x j lim g in let less = u.consumes i x j g in record {
+                good = d.good;
+                front = d.front;
+                is = d.is;
+                closes = λ s cl. led_no most r sub k p q (d.front ++ s) (ap (is_fixed k) (same_front most C C Q i d.front j s d.is less) ∙ w) ∙ d.closes s cl;
+              });
+        };
+        consumes = λ i x j h. led_cases most r sub k p q i (Ok (x, j)) h
+            (λ t z is w g. let less = ok_shorter (R p) (lo p) z x j g in omega (arith, less, ap length is))
+            (λ w g. u.consumes i x j g);
+      }
 
   -- what may stand behind a mark, or not at all
   pub opt_goal : {X : Type 0} (k : Fixed) (p : Program K Ans X) (x : X) (C : Option Lexeme → Type 0) (Q : X → Type 0) → ((q : Option Lexeme) → C q → is_fixed k q ≡ false) → Goal most r sub ls AnyToken C Q p → Q x → Goal most r sub ls C C Q (led k p (pure x))
   opt_goal {X = X} k p x C Q apart v good = record {
-      alive = record {
-        fin = record { more = []; x = x; good = good; opens = λ z cl. cl; ends = λ z cl. led_no most r sub k p (pure x) z (apart (lexeme_at z) cl) };
-        later = record {
-          later = λ i e n lim h fa behind. led_cases most r sub k p (pure x) i (Err e) h
+    alive = record {
+      fin = record { more = []; x = x; good = good; opens = λ z cl. cl; ends = λ z cl. led_no most r sub k p (pure x) z (apart (lexeme_at z) cl) };
+      later = record {
+        later = λ i e n lim h fa behind. led_cases most r sub k p (pure x) i (Err e) h
             (λ t z is w g. led_behind k p (pure x) C Q v i e n t z lim is w g fa)
             (λ w g. absurd (cc));
-          safe = λ i lim h. led_cases most r sub k p (pure x) i (Err NoMemory) h
+        safe = λ i lim h. led_cases most r sub k p (pure x) i (Err NoMemory) h
             (λ t z is w g. v.alive.later.safe z (omega (arith, lim, ap length is)) g)
-            (λ w g. absurd (cc)) } };
-      settles = record { at = λ i y j lim h. led_cases most r sub k p (pure x) i (Ok (y, j)) h
+            (λ w g. absurd (cc));
+      };
+    };
+    settles = record {
+      at = λ i y j lim h. led_cases most r sub k p (pure x) i (Ok (y, j)) h
           (λ t z is w g. led_settled k p (pure x) C Q v i y j t z lim is w g)
           (λ w g. let both : ◌≡◌ {A = X × List Tok} (x, i) (y, j) = cc in
-            subst (λ z. Settled C Q (R (led k p (pure x))) i z.0 z.1) both (record { good = good; front = []; is = refl; closes = λ z cl. led_no most r sub k p (pure x) z (apart (lexeme_at z) cl) })) };
-      heads = λ i y j lim h. inr (λ _ h2. h2) }
+          subst (λ z. Settled C Q (R (led k p (pure x))) i z.0 z.1) both (record { good = good; front = []; is = refl; closes = λ z cl. led_no most r sub k p (pure x) z (apart (lexeme_at z) cl) }));
+    };
+    heads = λ i y j lim h. inr (λ _ h2. h2);
+  }
 
   -- a loop whose turns each take a token
   pub turns_of : {S X : Type 0} (C : Option Lexeme → Type 0) (Q : X → Type 0) (Inv : S → Type 0) (body : S → Program K Ans (Turn S X))
       → ((s : S) → Inv s → Form most r sub ls C (Then most C C Q (λ s2. R (body s2)) Inv) (body s)) → ((s : S) → Inv s → Finishes C C (Done most C C Q (λ s2. R (body s2)) Inv) (R (body s)))
       → Turns most C C Q (λ s2. R (body s2)) Inv
   turns_of C Q Inv body v f = record {
-      local = λ s. lo (body s);
-      fin = f;
-      later = λ s inv. (v s inv).later;
-      goes = λ s i s2 j inv lim h. let d = (v s inv).settles.at i (go s2) j lim h in record { inv = d.good.0; settled = record { good = tt; front = d.front; is = d.is; closes = d.closes }; less = (v s inv).consumes i (go s2) j h };
-      ends = λ s i a j inv lim h. let d = (v s inv).settles.at i (done a) j lim h in record { good = d.good; front = d.front; is = d.is; closes = d.closes };
-      within = λ q h. h }
+    local = λ s. lo (body s);
+    fin = f;
+    later = λ s inv. (v s inv).later;
+    goes = λ s i s2 j inv lim h. let d = (v s inv).settles.at i (go s2) j lim h in record { inv = d.good.0; settled = record { good = tt; front = d.front; is = d.is; closes = d.closes }; less = (v s inv).consumes i (go s2) j h };
+    ends = λ s i a j inv lim h. let d = (v s inv).settles.at i (done a) j lim h in record { good = d.good; front = d.front; is = d.is; closes = d.closes };
+    within = λ q h. h;
+  }

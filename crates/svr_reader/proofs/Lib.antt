@@ -10,5 +10,7 @@ pub mod Rooms
 pub mod Layers
 pub mod Lists
 pub mod LiveLists
+pub mod Fronts
+pub mod Places
 pub mod Tokens
 pub mod Spelled

@@ -1,18 +1,17 @@
 -- Laws of the programs of lists, in terms of what one element is.
-use Rattle.std.proofs.Common.{◌≡◌, ℕ, zero, suc, ◌+◌, ◌<◌, ◌≤◌, max, Bool, true, false, List, [], ◌∷◌, ◌++◌, length, Option, Some, None, Ok, cond, refl, sym, ◌∙◌, ap, subst, arith, append_assoc, length-append}
+use Rattle.std.proofs.Common.{◌≡◌, ℕ, zero, suc, ◌+◌, ◌≤◌, max, true, false, List, [], ◌∷◌, ◌++◌, length, Option, Some, Ok, cond, refl, sym, ◌∙◌, ap, subst, arith, append_assoc, length-append}
 use Rattle.std.proofs.lemmas.List.{append-nil}
 use Rattle.svr_token.specs.declared.Lexeme.{Lexeme}
-use Rattle.svr_token.specs.declared.Lexeme.TheVariants as l
 use Rattle.svr_token.specs.declared.Mark.TheVariants as m
 use Rattle.svr_tree.specs.Tokens as tokens
 use Rattle.svr_tree.specs.Tokens.{Tok, Entry, Any, FitEach, followed, listed, Each, OneOrMore}
 use Rattle.svr_tree.specs.DeclGrammar.{greatest}
 use Rattle.svr_reader.specs.declared.fixed.Fixed.{Fixed}
 use Rattle.svr_reader.specs.declared.fixed.Fixed.TheVariants as f
-use Rattle.svr_reader.specs.Program.{Turn, go, done, Program, pure, bind, Outcome, Parser, lexeme_at, turns, run}
+use Rattle.svr_reader.specs.Program.{Turn, go, done, Program, pure, bind, Parser, lexeme_at, turns, run}
 use Rattle.svr_reader.specs.Steps.{fixed_lexeme, is_fixed, sees, eat}
 use Rattle.svr_reader.specs.Lists.{Tall, with_last, list_step, listing_on, listing, until_step, until}
-use Rattle.svr_reader.proofs.Steps.{bind_ok, bind_is, yields, turn_ok, when, takes_append, takes_parts, takes_length, lexeme_of, fixed_self, Saw, eat_ok, eats, eat_not, led_ok, led_takes, led_no}
+use Rattle.svr_reader.proofs.Steps.{bind_ok, bind_is, yields, turn_ok, when, takes_append, takes_parts, takes_length, lexeme_of, Saw, eat_ok, eats, eat_not, led_ok, led_takes, led_no}
 use Rattle.svr_reader.proofs.Live.{AnyToken}
 use Rattle.svr_reader.proofs.Layers.{ReadAs, IsSound, IsComplete}
 
@@ -136,8 +135,10 @@ module _ {K : Type 0} {Ans : K → Type 0} (most r : ℕ) (sub : (k : K) → Par
     pub listing_complete : {C : Option Lexeme → Type 0} → D (Some (fixed_lexeme comma)) → ((q : Option Lexeme) → C q → D q) → ((q : Option Lexeme) → C q → is_fixed comma q ≡ false)
         → IsComplete (listed spell) (OneOrMore Is) (greatest high) most b C (R (listing p))
     unfolding listing
-    listing_complete dc within apart = record { at = λ xs i rest few o low h c. listing_on_complete dc ([], 0) xs i rest few o low h (within (lexeme_at rest) c) (apart (lexeme_at rest) c)
-        ∙ (let least : max 0 (greatest high xs) ≡ greatest high xs = omega arith in ap (λ v. Ok ((xs, v), rest)) least) }
+    listing_complete dc within apart = record {
+      at = λ xs i rest few o low h c. listing_on_complete dc ([], 0) xs i rest few o low h (within (lexeme_at rest) c) (apart (lexeme_at rest) c)
+          ∙ (let least : max 0 (greatest high xs) ≡ greatest high xs = omega arith in ap (λ v. Ok ((xs, v), rest)) least);
+    }
 
   -- ---- { x } and the word or mark that ends them
 
@@ -151,7 +152,7 @@ module _ {K : Type 0} {Ans : K → Type 0} (most r : ℕ) (sub : (k : K) → Par
     until_step_ok b ok s i v j h g d = led_ok most r sub k (pure (done s)) (bind p (λ x. pure (go (with_last s x)))) i (v, j) h
         (λ mid t e. let both : ◌≡◌ {A = Turn Lists Lists × List Tok} (done s, mid) (v, j) = cc in d (subst (λ z. FitEach i (Any (fixed_lexeme k) ∷ []) z) (ap (λ z. z.1) both) t) (sym (ap (λ z. z.0) both)))
         (λ _ e. bind_ok (R p i) _ (v, j) e (λ x mid e2 k2. let both : ◌≡◌ {A = Turn Lists Lists × List Tok} (go (with_last s x), mid) (v, j) = cc in
-            g x (subst (λ z. ReadAs spell Is high b i x z) (ap (λ z. z.1) both) (ok.at i x mid e2)) (sym (ap (λ z. z.0) both))))
+        g x (subst (λ z. ReadAs spell Is high b i x z) (ap (λ z. z.1) both) (ok.at i x mid e2)) (sym (ap (λ z. z.0) both))))
 
     until_turns_sound : (b : ℕ) → IsSound spell Is high b (R p) → (n : ℕ) (s : Lists) (i : List Tok) (y : Lists × List Tok) → turns n (λ s2. R (until_step k p s2)) s i ≡ Ok y → Behind ended (Each Is) high b s i y.0 y.1
     until_turns_sound b ok zero s i y h = absurd (cc)
@@ -213,5 +214,7 @@ module _ {K : Type 0} {Ans : K → Type 0} (most r : ℕ) (sub : (k : K) → Par
 
       pub until_complete : IsComplete ended (Each Is) (greatest high) most b AnyToken (R (until k p))
       unfolding until
-      until_complete = record { at = λ xs i rest few o low h c. until_turns_complete most ([], 0) xs i rest few few o low h
-          ∙ (let least : max 0 (greatest high xs) ≡ greatest high xs = omega arith in ap (λ v. Ok ((xs, v), rest)) least) }
+      until_complete = record {
+        at = λ xs i rest few o low h c. until_turns_complete most ([], 0) xs i rest few few o low h
+            ∙ (let least : max 0 (greatest high xs) ≡ greatest high xs = omega arith in ap (λ v. Ok ((xs, v), rest)) least);
+      }

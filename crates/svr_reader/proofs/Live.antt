@@ -1,5 +1,5 @@
 -- Where a reading fails, what was read so far can be completed.
-use Rattle.std.proofs.Common.{◌≡◌, ℕ, zero, suc, ◌+◌, ◌<◌, ◌≤◌, Bool, true, false, List, [], ◌∷◌, ◌++◌, length, Option, Some, None, Result, Ok, Err, cond, ◌⊎◌, inl, inr, refl, sym, ◌∙◌, ap, subst, arith, rules, append_assoc, length-append}
+use Rattle.std.proofs.Common.{◌≡◌, ℕ, suc, ◌+◌, ◌<◌, ◌≤◌, Bool, true, false, List, [], ◌∷◌, ◌++◌, length, Option, Some, Ok, Err, cond, ◌⊎◌, inl, inr, refl, sym, ◌∙◌, ap, subst, arith, append_assoc, length-append}
 use Rattle.std.specs.Prelude.{nat_le, nat_lt, ◌==◌}
 use Rattle.std.proofs.lemmas.Bool.Decides.{nat_tests}
 use Rattle.svr_token.specs.declared.Lexeme.{Lexeme}
@@ -7,7 +7,7 @@ use Rattle.svr_tree.specs.Tokens.{Tok}
 use Rattle.svr_reader.specs.declared.fault.ReadFault.{ReadFault}
 use Rattle.svr_reader.specs.declared.fault.ReadFault.TheVariants.{NoMemory, Unexpected, TooDeep}
 use Rattle.svr_reader.specs.Program.{Outcome, Parser, and_then, lexeme_at, number_at, taken, entered}
-use Rattle.svr_reader.proofs.Steps.{bind_is, bind_ok, when, Enters, entered_ok, entered_is}
+use Rattle.svr_reader.proofs.Steps.{bind_is, bind_ok, entered_ok, entered_is}
 use Rattle.svr_reader.proofs.Local.{SameHead, Stays, StaysFor, IsLocal}
 
 -- the fault stands where n tokens are left

@@ -1,5 +1,5 @@
 -- Lists: where a reading fails, what was read so far can be completed.
-use Rattle.std.proofs.Common.{◌≡◌, ℕ, zero, suc, ◌+◌, ◌<◌, ◌≤◌, max, Bool, true, false, List, [], ◌∷◌, ◌++◌, length, Option, Some, None, Ok, Err, cond, refl, sym, ◌∙◌, ap, subst, arith}
+use Rattle.std.proofs.Common.{◌≡◌, ℕ, zero, suc, ◌<◌, ◌≤◌, true, false, List, [], ◌∷◌, ◌++◌, length, Option, Some, None, Ok, Err, cond, refl, sym, ◌∙◌, ap, subst, arith}
 use Rattle.svr_token.specs.declared.Lexeme.{Lexeme}
 use Rattle.svr_token.specs.declared.Mark.TheVariants as m
 use Rattle.svr_tree.specs.Tokens.{Tok, Any, FitEach}
@@ -7,12 +7,12 @@ use Rattle.svr_reader.specs.declared.fixed.Fixed.{Fixed}
 use Rattle.svr_reader.specs.declared.fixed.Fixed.TheVariants as f
 use Rattle.svr_reader.specs.declared.fault.ReadFault.{ReadFault}
 use Rattle.svr_reader.specs.declared.fault.ReadFault.TheVariants.{NoMemory}
-use Rattle.svr_reader.specs.Program.{Turn, go, done, Program, pure, bind, take, loop, Outcome, Parser, lexeme_at, turned, turns, run}
-use Rattle.svr_reader.specs.Steps.{fixed_lexeme, is_fixed, sees, choose, eat}
+use Rattle.svr_reader.specs.Program.{Turn, go, done, Program, pure, bind, take, Parser, lexeme_at, turned, turns, run}
+use Rattle.svr_reader.specs.Steps.{fixed_lexeme, is_fixed, sees, eat}
 use Rattle.svr_reader.specs.Lists.{Tall, with_last, list_step, listing_on, listing, until_step, until}
 use Rattle.svr_reader.proofs.Steps.{bind_ok, bind_is, turn_ok, when, Saw, fixed_none, choose_ok, eat_ok, eats, eat_not, led_yes}
 use Rattle.svr_reader.proofs.Local.{IsLocal, local_run, local_turns}
-use Rattle.svr_reader.proofs.Live.{AnyToken, Later, Finishes, Alive, Settled, Consumes, bind_err, finishes_bind, later_bind, settled_behind, settled_here, ok_stays, ok_shorter}
+use Rattle.svr_reader.proofs.Live.{AnyToken, Finishes, Alive, Settled, bind_err, finishes_bind, later_bind, settled_behind, settled_here, ok_stays, ok_shorter}
 use Rattle.svr_reader.proofs.LiveLoops.{Then, Done, Goes, Turns}
 use Rattle.svr_reader.proofs.Goals.{Goal, Form, goal_of, pure_goal, then_form, loop_goal}
 use Rattle.svr_reader.proofs.Led.{AnyAnswer, tok, led_form, turns_of}

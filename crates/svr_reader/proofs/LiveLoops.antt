@@ -1,11 +1,11 @@
 -- Loops: where a turn fails, what was read so far can be completed.
-use Rattle.std.proofs.Common.{◌≡◌, ℕ, zero, suc, ◌+◌, ◌<◌, ◌≤◌, Bool, true, false, List, [], ◌∷◌, ◌++◌, length, Option, Some, None, Result, Ok, Err, cond, ◌⊎◌, inl, inr, refl, sym, ◌∙◌, ap, subst, arith, rules, append_assoc, length-append}
+use Rattle.std.proofs.Common.{◌≡◌, ℕ, zero, suc, ◌<◌, List, [], ◌++◌, length, Option, Ok, Err, refl, sym, ◌∙◌, ap, subst, arith}
 use Rattle.svr_token.specs.declared.Lexeme.{Lexeme}
 use Rattle.svr_tree.specs.Tokens.{Tok}
 use Rattle.svr_reader.specs.declared.fault.ReadFault.{ReadFault}
-use Rattle.svr_reader.specs.declared.fault.ReadFault.TheVariants.{NoMemory, Unexpected, TooDeep}
-use Rattle.svr_reader.specs.Program.{Turn, go, done, Outcome, Parser, and_then, lexeme_at, turned, turns}
-use Rattle.svr_reader.proofs.Steps.{bind_is, bind_ok, turn_ok}
+use Rattle.svr_reader.specs.declared.fault.ReadFault.TheVariants.{NoMemory}
+use Rattle.svr_reader.specs.Program.{Turn, go, done, Parser, lexeme_at, turned, turns}
+use Rattle.svr_reader.proofs.Steps.{bind_is, turn_ok}
 use Rattle.svr_reader.proofs.Local.{IsLocal, local_turns}
 use Rattle.svr_reader.proofs.Live.{FaultsAt, Completes, Later, Finishes, Alive, Settled, Settles, bind_err, split, ok_stays, fault_within, later_in, later_at, later_behind, settled_behind, settled_here}
 

@@ -1,10 +1,10 @@
 -- Where there is no room for a construct, and what more room changes there.
-use Rattle.std.proofs.Common.{◌≡◌, ℕ, suc, ◌+◌, ◌<◌, ◌≤◌, Bool, true, false, List, [], ◌∷◌, length, Option, Some, None, Ok, Err, cond, ◌⊎◌, inl, inr, refl, sym, ◌∙◌, ap, arith}
+use Rattle.std.proofs.Common.{◌≡◌, ℕ, suc, ◌≤◌, Bool, true, false, List, [], ◌∷◌, length, Option, Some, Ok, Err, cond, ◌⊎◌, inl, inr, refl, sym, ◌∙◌, ap, arith}
 use Rattle.svr_token.specs.declared.Lexeme.{Lexeme}
 use Rattle.svr_tree.specs.Tokens.{Tok}
 use Rattle.svr_reader.specs.declared.fault.ReadFault.{ReadFault}
 use Rattle.svr_reader.specs.declared.fault.ReadFault.TheVariants.{NoMemory, Unexpected, TooDeep}
-use Rattle.svr_reader.specs.Program.{Program, pure, bind, refuse, peek, here, take, enter, call, Parser, and_then, lexeme_at, number_at, entered, run}
+use Rattle.svr_reader.specs.Program.{Program, bind, refuse, peek, here, take, enter, call, Parser, and_then, lexeme_at, number_at, run}
 use Rattle.svr_reader.specs.Lists.{no_room}
 use Rattle.svr_reader.proofs.Steps.{when, entered_is}
 use Rattle.svr_reader.proofs.Local.{IsLocal, StaysFor, same_lexeme, local_run}
@@ -27,8 +27,9 @@ module _ (X : Type 0) (f : Option Lexeme → Bool) where
 
   pub none_later : (most : ℕ) (C : Option Lexeme → Type 0) (Q : X → Type 0) → Later most C Q (no_room {A = X} f)
   none_later most C Q = record {
-      later = λ i e n lim h fa behind. elim (none_fault i e h) as (λ _. Completes C Q (no_room {A = X} f) i n) [ inl a ↦ absurd (omega (arith, behind, fault_deep e n (length i) a fa)) | inr a ↦ absurd (omega (arith, behind, fault_len e n (length i) a fa)) ];
-      safe = λ i lim h. elim (none_fault i NoMemory h) as (λ _. ⊥) [ inl a ↦ absurd (cc) | inr a ↦ absurd (cc) ] }
+    later = λ i e n lim h fa behind. elim (none_fault i e h) as (λ _. Completes C Q (no_room {A = X} f) i n) [ inl a ↦ absurd (omega (arith, behind, fault_deep e n (length i) a fa)) | inr a ↦ absurd (omega (arith, behind, fault_len e n (length i) a fa)) ];
+    safe = λ i lim h. elim (none_fault i NoMemory h) as (λ _. ⊥) [ inl a ↦ absurd (cc) | inr a ↦ absurd (cc) ];
+  }
 
   -- with as much room nothing changes; with more, the construct gets past a token of f, and refuses any other
   none_grown : (wider : Bool) (q : Parser X) → (wider ≡ false → (i : List Tok) → q i ≡ no_room f i) → (wider ≡ true → (i : List Tok) → f (lexeme_at i) ≡ true → Past (length i) (q i))

@@ -1,7 +1,5 @@
 -- A recursion on a count, where code counts up to it.
-use Rattle.std.proofs.Common.{◌≡◌, ℕ, zero, suc, ◌+◌, ◌-◌, ◌<◌, Bool, true, refl, sym, ◌∙◌, ap, arith}
-use Rattle.std.specs.Prelude.{nat_lt}
-use Rattle.std.proofs.lemmas.Bool.Decides.{nat_tests}
+use Rattle.std.proofs.Common.{◌≡◌, ℕ, suc, ◌+◌, ◌-◌, ◌<◌, ◌∙◌, ap, arith}
 
 -- a loop over 0..n has done i turns
 pub one_less : (n i : ℕ) → i < n → n - i ≡ suc (n - (i + 1))

@@ -4,3 +4,4 @@ pub mod Numbered
 pub mod Answers
 pub mod Spelled
 pub mod Lists
+pub mod Fronts
