@@ -1,5 +1,5 @@
 -- The productions of expressions, as programs (IEEE 1800-2017, A.8 and table 11-2). Each answer has its height beside it.
-use Rattle.std.specs.Prelude.{ℕ, zero, suc, ◌+◌, max, Bool, true, false, List, [], ◌∷◌, ◌++◌, Option, Some, None}
+use Rattle.std.specs.Prelude.{ℕ, zero, suc, ◌+◌, max, Bool, true, false, List, [], ◌∷◌, ◌++◌, Option, Some, None, Err}
 use Rattle.svr_token.specs.declared.Lexeme.{Lexeme}
 use Rattle.svr_token.specs.declared.Lexeme.TheVariants as lexeme
 use Rattle.svr_token.specs.declared.Word.TheVariants as w
@@ -15,6 +15,7 @@ use Rattle.svr_tree.specs.ExprTree.{ExprTree, number, path, bit_select, part_sel
 use Rattle.svr_tree.specs.Operators.{precedence, least_right}
 use Rattle.svr_tree.specs.ExprGrammar.{is_selectable}
 use Rattle.svr_reader.specs.declared.fixed.Fixed.TheVariants as f
+use Rattle.svr_reader.specs.declared.fault.ReadFault.TheVariants.{NoMemory}
 use Rattle.svr_reader.specs.Program.{Turn, go, done, Program, pure, bind, refuse, peek, here, take, enter, call, loop, Parser, run}
 use Rattle.svr_reader.specs.Steps.{is_fixed, choose, expect}
 use Rattle.svr_reader.specs.Lists.{◌>>=◌, ◌>>◌, Tall, no_room, led, listing_on, listing}
@@ -368,16 +369,17 @@ starts (Some (lexeme.Mark m.OpenBrace)) = true
 starts (Some (lexeme.Mark k)) = is_operator (unary_of k)
 starts l = starts_path l
 
-abbrev pub node_starts : Node → Option Lexeme → Bool
-node_starts (an_expr least) l = starts l
-node_starts a_path l = starts_path l
-node_starts a_member l = starts_path l
-node_starts (rest_of at first) l = false
-node_starts (links_of at first) l = false
+-- where there is no room for any expression. Nothing is said of one whose first operand was read already
+abbrev pub no_node : Node → Parser (Tall ExprTree)
+no_node (an_expr least) i = no_room starts i
+no_node a_path i = no_room starts_path i
+no_node a_member i = no_room starts_path i
+no_node (rest_of at first) i = Err NoMemory
+no_node (links_of at first) i = Err NoMemory
 
 -- a node of a height up to the second number. No list is longer than the first number
 unfoldable pub node : ℕ → ℕ → Node → Parser (Tall ExprTree)
-node most zero k i = no_room (node_starts k) i
+node most zero k i = no_node k i
 node most (suc r) k i = run most r (λ least. node most r (an_expr least)) (node_in k) i
 
 abbrev pub expr : ℕ → ℕ → ℕ → Parser (Tall ExprTree)

@@ -69,16 +69,16 @@ link_level (link.Binary op) = precedence op
 link_level link.Choice = 2
 link_level link.Inside = 9
 
+abbrev pub link_binds : Option Link → ℕ
+link_binds None = 0
+link_binds (Some k) = link_level k
+
 -- how tightly a token goes with what stands before it: a link by its level, 14 for one that only a path goes on with, 0 for any other
 abbrev pub binds : Option Lexeme → ℕ
 binds (Some (lexeme.Mark m.Dot)) = 14
 binds (Some (lexeme.Mark m.OpenBracket)) = 14
 binds (Some (lexeme.Mark m.OpenParen)) = 14
-binds l = binds_by (link_of l)
-  where
-    binds_by : Option Link → ℕ
-    binds_by None = 0
-    binds_by (Some k) = link_level k
+binds l = link_binds (link_of l)
 
 -- a link of level n, where links of at least `least` and of less than `most` may stand
 abbrev pub goes_on : ℕ → ℕ → ℕ → Bool
