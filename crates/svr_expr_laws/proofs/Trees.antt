@@ -129,10 +129,7 @@ parens = parens_spelling true
 
 pub with_parens_spelling : (t : ExprTree) → is_selectable t ≡ true → expr_spelling (with_parens t) ≡ expr_spelling t ++ parens
 with_parens_spelling (path at s names false) h =
-    ap (λ v. scope_spelling at s ++ (v ++ parens)) (sym (append-nil (names_spelling names))) ∙ ap (λ v. scope_spelling at s ++ v) (append_assoc (names_spelling names) [] parens) ∙ joined
-  where
-    joined : scope_spelling at s ++ (names_spelling names ++ ([] ++ parens)) ≡ (scope_spelling at s ++ (names_spelling names ++ [])) ++ parens
-    joined = ap (λ v. scope_spelling at s ++ v) (sym (append_assoc (names_spelling names) [] parens)) ∙ sym (append_assoc (scope_spelling at s) (names_spelling names ++ []) parens)
+    ap (λ v. scope_spelling at s ++ (v ++ parens)) (sym (append-nil (names_spelling names))) ∙ sym (append_assoc (scope_spelling at s) (names_spelling names ++ []) parens)
 with_parens_spelling (bit_select at base index false) h =
     ap (λ v. expr_spelling base ++ mark m.OpenBracket ∷ v) (sym (append_assoc (expr_spelling index) (mark m.CloseBracket ∷ []) parens))
     ∙ sym (append_assoc (expr_spelling base) (mark m.OpenBracket ∷ (expr_spelling index ++ mark m.CloseBracket ∷ [])) parens)
