@@ -2,3 +2,4 @@ pub mod Links
 pub mod Trees
 pub mod Names
 pub mod SoundParts
+pub mod Sound
