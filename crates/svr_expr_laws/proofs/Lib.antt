@@ -3,3 +3,4 @@ pub mod Trees
 pub mod Names
 pub mod SoundParts
 pub mod Sound
+pub mod Growth
