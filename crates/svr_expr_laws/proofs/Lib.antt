@@ -4,3 +4,5 @@ pub mod Names
 pub mod SoundParts
 pub mod Sound
 pub mod Growth
+pub mod CompleteParts
+pub mod Complete
