@@ -32,11 +32,11 @@ use Rattle.svr_expr_laws.proofs.Names.{names_known, known_path_complete}
 use Rattle.svr_expr_laws.proofs.SoundParts.{IsAt, Exprs}
 use Rattle.svr_expr_laws.proofs.CompleteParts.{Before, EndsList, IsCompleteExpr, before_mark, sees_none, within, selectable_first, fuel_left, exprs_complete, range_complete, ranges_complete, negated_complete, enclosed_complete, signing_complete, copies_complete, join_complete, path_in_complete, bare_complete, parens_complete, by_path}
 
-after_token : (i rest : List Tok) (q : Lexeme) (es : List Entry) → FitEach i (Any q ∷ es) rest → FitEach (next i) es rest
+pub after_token : (i rest : List Tok) (q : Lexeme) (es : List Entry) → FitEach i (Any q ∷ es) rest → FitEach (next i) es rest
 after_token [] rest q es h = absurd h
 after_token (t ∷ i) rest q es h = h.1
 
-next_less : (i : List Tok) → length (next i) ≤ length i
+pub next_less : (i : List Tok) → length (next i) ≤ length i
 next_less [] = omega arith
 next_less (t ∷ i) = omega arith
 
@@ -97,12 +97,12 @@ module _ (most r : ℕ) (sub : ℕ → Parser (Tall ExprTree)) (ok : IsCompleteE
     is = bind_is (R prefix i) _ (t, expr_height t) rest _ h (rw (s, v) refl);
   }
 
-  extended : (at : ℕ) (left : Tall ExprTree) (k : Link) (i m2 : List Tok) (y : Outcome (Tall ExprTree)) → left.1 ≤ r → lexeme_at i ≡ Some (spells_link k) → next i ≡ m2 → R (extend_by at left k) m2 ≡ y → R (extend at left k) i ≡ y
+  pub extended : (at : ℕ) (left : Tall ExprTree) (k : Link) (i m2 : List Tok) (y : Outcome (Tall ExprTree)) → left.1 ≤ r → lexeme_at i ≡ Some (spells_link k) → next i ≡ m2 → R (extend_by at left k) m2 ≡ y → R (extend at left k) i ≡ y
   unfolding extend
   extended at left k [] m2 y low e n h = absurd (cc)
   extended at left k (t ∷ i) m2 y low e n h = bind_is (entered r left.1 (t ∷ i)) _ t.at i y (entered_is r left.1 t i low) (ap (R (extend_by at left k)) n ∙ h)
 
-  turn : (n at least bound : ℕ) (left : Tall ExprTree) (k : Link) (i j : List Tok) (longer : Tall ExprTree) → lexeme_at i ≡ Some (spells_link k) → goes_on least bound (link_level k) ≡ true → R (extend at left k) i ≡ Ok (longer, j)
+  pub turn : (n at least bound : ℕ) (left : Tall ExprTree) (k : Link) (i j : List Tok) (longer : Tall ExprTree) → lexeme_at i ≡ Some (spells_link k) → goes_on least bound (link_level k) ≡ true → R (extend at left k) i ≡ Ok (longer, j)
       → turns (suc n) (λ s. R (climb_step at least s)) (left, bound) i ≡ turns n (λ s. R (climb_step at least s)) (longer, least_right (link_level k)) j
   unfolding climb_step
   turn n at least bound left k i j longer e goes1 h = bind_is (R (climb_step at least (left, bound)) i) (turned (turns n (λ s. R (climb_step at least s)))) (go (longer, least_right (link_level k))) j _
@@ -137,7 +137,7 @@ module _ (most r : ℕ) (sub : ℕ → Parser (Tall ExprTree)) (ok : IsCompleteE
 
   -- ---- what follows a link
 
-  operated_complete : (at : ℕ) (op : BinOp) (a x : ExprTree) (i rest : List Tok) → length i ≤ most + length rest → at ≡ start a → IsExpr x → least_right (precedence op) ≤ level x → expr_height x ≤ r
+  pub operated_complete : (at : ℕ) (op : BinOp) (a x : ExprTree) (i rest : List Tok) → length i ≤ most + length rest → at ≡ start a → IsExpr x → least_right (precedence op) ≤ level x → expr_height x ≤ r
       → FitEach i (expr_spelling x) rest → binds (lexeme_at rest) < least_right (precedence op) → R (operated (start a) (a, expr_height a) op) i ≡ Ok ((binary at op a x, expr_height (binary at op a x)), rest)
   unfolding operated
   operated_complete at op a x i rest few e l v low h c =

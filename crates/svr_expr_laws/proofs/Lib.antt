@@ -6,3 +6,4 @@ pub mod Sound
 pub mod Growth
 pub mod CompleteParts
 pub mod Complete
+pub mod Nodes

@@ -44,6 +44,10 @@ left_of r least i x j low d = let v = d.is.1 in record { takes = d.takes; is = d
 pub left_read : (r at least : ℕ) (i : List Tok) (x : Tall ExprTree) (j : List Tok) → IsLeft r at least i x j → ReadAs expr_spelling (IsAt least) expr_height (suc r) i x j
 left_read r at least i x j d = record { takes = d.takes; is = (d.is, d.above); tall = d.tall; low = d.low }
 
+-- a primary is left whole by any link
+pub primary_binding : (t : ExprTree) → level t ≡ 13 → (i : List Tok) (k : Link) → link_of (lexeme_at i) ≡ Some k → link_level k < least_right (level t)
+primary_binding t e i k q = let low = link_low k in subst (λ z. link_level k < least_right z) (sym e) (omega (arith, low))
+
 module _ (most r : ℕ) (sub : ℕ → Parser (Tall ExprTree)) (ok : (least : ℕ) → least ≤ 13 → IsSound expr_spelling (IsAt least) expr_height r (sub least)) where
   abbrev R : {A : Type 0} → Reader A → Parser A
   R p = run most r sub p
@@ -135,32 +139,32 @@ module _ (most r : ℕ) (sub : ℕ → Parser (Tall ExprTree)) (ok : (least : �
   unfolding climb_step
   climb_step_ok at least s i v j h g d = climb_by_ok at least s i (link_of (lexeme_at i)) v j refl h g d
 
+  -- `binding`: a link that comes next within the bound binds less than the operand
   climb_turns_sound : (at least n : ℕ) (s : Tall ExprTree × ℕ) (i0 i : List Tok) (y : Tall ExprTree × List Tok)
-      → IsLeft r at least i0 s.0 i → s.1 ≡ least_right (level s.0.0) → turns n (λ s2. R (climb_step at least s2)) s i ≡ Ok y → IsLeft r at least i0 y.0 y.1
-  climb_turns_sound at least zero s i0 i y l is h = absurd (cc)
-  climb_turns_sound at least (suc n) s i0 i y l is h = turn_ok (R (climb_step at least s) i) (turns n (λ s2. R (climb_step at least s2))) y h
+      → IsLeft r at least i0 s.0 i → ((k : Link) → link_of (lexeme_at i) ≡ Some k → link_level k < s.1 → link_level k < least_right (level s.0.0)) → turns n (λ s2. R (climb_step at least s2)) s i ≡ Ok y → IsLeft r at least i0 y.0 y.1
+  climb_turns_sound at least zero s i0 i y l binding h = absurd (cc)
+  climb_turns_sound at least (suc n) s i0 i y l binding h = turn_ok (R (climb_step at least s) i) (turns n (λ s2. R (climb_step at least s2))) y h
       (λ s2 j e g. climb_step_ok at least s i (go s2) j e
       (λ k longer q w1 e2 is2. let same : s2 ≡ (longer, least_right (link_level k)) = cc in
       let going = goes_ok least s.1 (link_level k) w1 in
-      let binding : link_level k < least_right (level s.0.0) = omega (arith, going.1, is) in
-      let d = extend_sound at least i0 s.0 i k (longer, j) l q going.0 binding e2 in
-      climb_turns_sound at least n (longer, least_right (link_level k)) i0 j y d.0 (ap least_right (sym d.1))
+      let d = extend_sound at least i0 s.0 i k (longer, j) l q going.0 (binding k q going.1) e2 in
+      climb_turns_sound at least n (longer, least_right (link_level k)) i0 j y d.0 (λ k2 q2 less. subst (λ z. link_level k2 < least_right z) (sym d.1) less)
       (subst (λ z. turns n (λ s3. R (climb_step at least s3)) z j ≡ Ok y) same g))
       (λ at2 is2. absurd (cc)))
       (λ a j e g. climb_step_ok at least s i (done a) j e
       (λ k longer q w1 e2 is2. absurd (cc))
       (λ at2 is2. let same : a ≡ s.0 = cc in yields (IsLeft r at least i0) a j y g (rw (same, ← at2) l)))
 
-  -- links behind a primary
-  pub climb_sound : (at least : ℕ) (i0 : List Tok) (x : Tall ExprTree) (i : List Tok) (y : Tall ExprTree × List Tok) → IsLeft r at least i0 x i → level x.0 ≡ 13 → R (climb at least x) i ≡ Ok y → IsLeft r at least i0 y.0 y.1
+  -- links behind an operand that the next one leaves whole
+  pub climb_sound : (at least : ℕ) (i0 : List Tok) (x : Tall ExprTree) (i : List Tok) (y : Tall ExprTree × List Tok) → IsLeft r at least i0 x i → ((k : Link) → link_of (lexeme_at i) ≡ Some k → link_level k < least_right (level x.0)) → R (climb at least x) i ≡ Ok y → IsLeft r at least i0 y.0 y.1
   unfolding climb
-  climb_sound at least i0 x i y l v h = climb_turns_sound at least most (x, 14) i0 i y l (sym (ap least_right v)) h
+  climb_sound at least i0 x i y l binding h = climb_turns_sound at least most (x, 14) i0 i y l (λ k q less. binding k q) h
 
   expr_in_sound : (least : ℕ) → least ≤ 13 → IsSound expr_spelling (IsAt least) expr_height (suc r) (R (expr_in least))
   unfolding expr_in
   expr_in_sound least low = record { at = λ i y j h. bind_ok (R prefix i) _ (y, j) h (λ x mid e g.
       let p = prefix_sound most r sub ok i (x, mid) e in
-      left_read r (number_at i) least i y j (climb_sound (number_at i) least i x mid (y, j) (left_of r least i x mid low p) p.is.1 g)) }
+      left_read r (number_at i) least i y j (climb_sound (number_at i) least i x mid (y, j) (left_of r least i x mid low p) (primary_binding x.0 p.is.1 mid) g)) }
 
   -- ---- paths and members
 
@@ -262,12 +266,10 @@ rest_sound most r at i0 x i y j b h = bind_ok (run most r (expr most r) (with_su
     let l = left_of r 1 i0 z mid (omega arith) p in
     let same : number_at i0 ≡ at = (begins x.0 i0 i b.is b.takes).at ∙ sym b.begins in
     let l2 = subst (λ v. IsLeft r v 1 i0 z mid) same l in
-    left_read r at 1 i0 y j (climb_sound most r (expr most r) (expr_sound most r) at 1 i0 z mid (y, j) l2 p.is.1 g))
+    left_read r at 1 i0 y j (climb_sound most r (expr most r) (expr_sound most r) at 1 i0 z mid (y, j) l2 (primary_binding z.0 p.is.1 mid) g))
 
--- links behind a first operand that was read from i0
-pub links_sound : (most r at : ℕ) (i0 : List Tok) (x : Tall ExprTree) (i : List Tok) (y : Tall ExprTree) (j : List Tok) → ReadPrimary r i0 x i → at ≡ start x.0 → node most (suc r) (links_of at x) i ≡ Ok (y, j) → ReadAs expr_spelling (IsAt 1) expr_height (suc r) i0 y j
+-- links behind an operand that was read from i0 and that the next one leaves whole
+pub links_sound : (most r at : ℕ) (i0 : List Tok) (x : Tall ExprTree) (i : List Tok) (y : Tall ExprTree) (j : List Tok) → IsLeft r at 1 i0 x i → ((k : Link) → link_of (lexeme_at i) ≡ Some k → link_level k < least_right (level x.0))
+    → node most (suc r) (links_of at x) i ≡ Ok (y, j) → ReadAs expr_spelling (IsAt 1) expr_height (suc r) i0 y j
 unfolding node
-links_sound most r at i0 x i y j p e h =
-    let l = left_of r 1 i0 x i (omega arith) p in
-    let same : number_at i0 ≡ at = l.begins ∙ sym e in
-    left_read r at 1 i0 y j (climb_sound most r (expr most r) (expr_sound most r) at 1 i0 x i (y, j) (subst (λ v. IsLeft r v 1 i0 x i) same l) p.is.1 h)
+links_sound most r at i0 x i y j l binding h = left_read r at 1 i0 y j (climb_sound most r (expr most r) (expr_sound most r) at 1 i0 x i (y, j) l binding h)
