@@ -31,7 +31,7 @@ module _ {K : Type 0} {Ans : K → Type 0} (most r : ℕ) (sub : (k : K) → Par
   choose_form true v w = v
   choose_form false v w = w
 
-  expect_form : (q : Fixed) → Form most r sub ls AnyToken AnyAnswer (expect q)
+  pub expect_form : (q : Fixed) → Form most r sub ls AnyToken AnyAnswer (expect q)
   unfolding expect
   expect_form q = peek_form most r sub ls (λ k1. choose_form (is_fixed q k1) (take_form most r sub ls (λ _. pure_goal most r sub ls tt (λ _ h. h))) (refuse_form most r sub ls))
 

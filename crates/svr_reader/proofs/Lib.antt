@@ -6,6 +6,7 @@ pub mod Live
 pub mod LiveLoops
 pub mod Goals
 pub mod Led
+pub mod LiveTurns
 pub mod Rooms
 pub mod Layers
 pub mod Lists
