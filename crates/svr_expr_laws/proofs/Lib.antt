@@ -7,3 +7,4 @@ pub mod Growth
 pub mod CompleteParts
 pub mod Complete
 pub mod Nodes
+pub mod LiveParts
