@@ -8,3 +8,4 @@ pub mod CompleteParts
 pub mod Complete
 pub mod Nodes
 pub mod LiveParts
+pub mod Live

@@ -161,7 +161,7 @@ module _ (most r : ℕ) (sub : ℕ → Parser (Tall ExprTree)) (ls : (least : �
   unfolding exprs
   exprs_goal fits d = listing_goal most r sub ls some r Closes ClosesList (λ q h. h.0) (λ q h. h.1) (call 1) (one_form fits) (one_fin fits d)
 
-  exprs_on_goal : 1 ≤ r → (s : Tall (List ExprTree)) → Low r s → G AnyToken ClosesList (Low r) (listing_on (call 1) s)
+  pub exprs_on_goal : 1 ≤ r → (s : Tall (List ExprTree)) → Low r s → G AnyToken ClosesList (Low r) (listing_on (call 1) s)
   exprs_on_goal fits s low = listing_on_goal most r sub ls some r Closes ClosesList (λ q h. h.0) (λ q h. h.1) (call 1) (one_form fits) (one_fin {E = AnyToken} fits tt) s low
 
   bound_by_form : 1 ≤ r → (q : Option Lexeme) → F Closes (Low r) (bound_by q)
