@@ -1,36 +1,31 @@
 -- An expression of the grammar that spells the tokens is read.
-use Rattle.std.proofs.Common.{◌≡◌, ℕ, zero, suc, ◌+◌, ◌<◌, ◌≤◌, max, Bool, true, false, List, [], ◌∷◌, ◌++◌, length, Option, Some, None, Ok, refl, sym, ◌∙◌, ap, subst, arith}
+use Rattle.std.proofs.Common.{◌≡◌, ℕ, zero, suc, ◌+◌, ◌<◌, ◌≤◌, max, true, false, List, [], ◌∷◌, ◌++◌, length, Option, Some, None, Ok, refl, sym, ◌∙◌, ap, subst, arith}
 use Rattle.svr_token.specs.declared.Lexeme.{Lexeme}
 use Rattle.svr_token.specs.declared.Lexeme.TheVariants as lexeme
 use Rattle.svr_token.specs.declared.Word.TheVariants as w
-use Rattle.svr_token.specs.declared.Mark.{Mark}
 use Rattle.svr_token.specs.declared.Mark.TheVariants as m
-use Rattle.svr_token.specs.declared.NameKind.{NameKind}
 use Rattle.svr_typed.specs.declared.UnOp.{UnOp}
 use Rattle.svr_typed.specs.declared.UnOp.TheVariants as u
 use Rattle.svr_typed.specs.declared.BinOp.{BinOp}
-use Rattle.svr_tree.specs.declared.expr.Scope.{Scope}
 use Rattle.svr_tree.specs.Tokens.{Tok, Entry, On, Any, FitEach, mark, word}
 use Rattle.svr_tree.specs.DeclGrammar.{greatest}
-use Rattle.svr_tree.specs.Operators.{unary_mark, binary_mark, precedence, least_left, least_right}
-use Rattle.svr_tree.specs.ExprTree.{ExprTree, number, path, bit_select, part_select, unary, binary, choice, inside, join, copies, sign, paren, ExprTrees, RangeTree, RangeTrees, exprs_of, ranges_of}
-use Rattle.svr_tree.specs.ExprGrammar.{scope_spelling, system_name, expr_spelling, exprs_spelling, ranges_spelling, range_spelling, level, start, IsPathAt, is_selectable, is_path, is_member, IsExpr, AreExprs, AreRanges, IsRange, expr_height, exprs_height, ranges_height, range_height}
-use Rattle.svr_tree.specs.ItemGrammar.{IsPath, IsMember}
+use Rattle.svr_tree.specs.Operators.{unary_mark, binary_mark, precedence, least_right}
+use Rattle.svr_tree.specs.ExprTree.{ExprTree, number, path, bit_select, part_select, unary, binary, choice, inside, join, copies, sign, paren, ExprTrees, RangeTree, RangeTrees, ranges_of}
+use Rattle.svr_tree.specs.ExprGrammar.{system_name, expr_spelling, exprs_spelling, ranges_spelling, level, start, is_selectable, IsExpr, AreExprs, AreRanges, expr_height, exprs_height, ranges_height, range_height}
 use Rattle.svr_reader.specs.declared.fixed.Fixed.TheVariants as f
-use Rattle.svr_reader.specs.Program.{Turn, go, done, Program, pure, bind, call, Outcome, Parser, and_then, lexeme_at, number_at, next, entered, turned, turns, run}
-use Rattle.svr_reader.specs.Steps.{same_mark, is_fixed, sees, expect}
+use Rattle.svr_reader.specs.Program.{go, done, Outcome, Parser, lexeme_at, number_at, next, entered, turned, turns, run}
+use Rattle.svr_reader.specs.Steps.{same_mark, expect}
 use Rattle.svr_reader.specs.Lists.{Tall}
-use Rattle.svr_reader.proofs.Steps.{bind_is, takes_parts, takes_length, takes_less, lexeme_of, lexeme_on, entered_is, expects, choose_true, choose_false}
+use Rattle.svr_reader.proofs.Steps.{bind_is, takes_parts, takes_less, lexeme_of, lexeme_on, entered_is, expects, choose_true, choose_false}
 use Rattle.svr_reader.proofs.Layers.{IsComplete}
 use Rattle.svr_expr.specs.declared.link.Link.{Link}
 use Rattle.svr_expr.specs.declared.link.Link.TheVariants as link
 use Rattle.svr_expr.specs.Links.{unary_of, link_of, link_level, binds, goes_on}
-use Rattle.svr_expr.specs.ExprRules.{Reader, known_path, path_in, indexed, member_step, member_in, with_parens, selected, exprs, range, ranges, literal, negated, negated_by, prefix_by, prefix, operated, chosen, among, extend_by, extend, climb_by, climb_step, climb, expr_in, an_expr, a_path, a_member, rest_of, links_of, node, expr, a_known_path, some_exprs, a_range, starts_path}
-use Rattle.svr_expr_laws.proofs.Links.{precedence_pos, precedence_low, link_pos, lower_left, binding_left, right_pos, least_low, goes, stops, unary_is, spells_link, link_is, binds_link, spelled_binds, no_dot, binds_gap}
-use Rattle.svr_expr_laws.proofs.Trees.{height_pos, level_pos, list_of, list_is, exprs_spelling_is, exprs_height_is, exprs_are, list_of_ranges, ranges_list_is, ranges_spelling_is, ranges_height_is, ranges_are, parens, with_parens_spelling, begins}
-use Rattle.svr_expr_laws.proofs.Names.{names_known, known_path_complete}
-use Rattle.svr_expr_laws.proofs.SoundParts.{IsAt, Exprs}
-use Rattle.svr_expr_laws.proofs.CompleteParts.{Before, EndsList, IsCompleteExpr, before_mark, sees_none, within, selectable_first, fuel_left, exprs_complete, range_complete, ranges_complete, negated_complete, enclosed_complete, signing_complete, copies_complete, join_complete, path_in_complete, bare_complete, parens_complete, by_path}
+use Rattle.svr_expr.specs.ExprRules.{Reader, with_parens, selected, ranges, literal, negated_by, prefix_by, prefix, operated, chosen, among, extend_by, extend, climb_by, climb_step, climb, expr_in, node, expr, starts_path}
+use Rattle.svr_expr_laws.proofs.Links.{precedence_pos, precedence_low, lower_left, binding_left, right_pos, least_low, goes, stops, unary_is, spells_link, link_is, binds_link, spelled_binds, binds_gap}
+use Rattle.svr_expr_laws.proofs.Trees.{height_pos, level_pos, list_of, list_is, exprs_height_is, exprs_are, list_of_ranges, ranges_list_is, ranges_spelling_is, ranges_height_is, ranges_are, parens, with_parens_spelling, begins}
+use Rattle.svr_expr_laws.proofs.SoundParts.{IsAt}
+use Rattle.svr_expr_laws.proofs.CompleteParts.{Before, IsCompleteExpr, before_mark, sees_none, selectable_first, fuel_left, ranges_complete, negated_complete, enclosed_complete, signing_complete, copies_complete, join_complete, bare_complete, parens_complete, by_path}
 
 pub after_token : (i rest : List Tok) (q : Lexeme) (es : List Entry) → FitEach i (Any q ∷ es) rest → FitEach (next i) es rest
 after_token [] rest q es h = absurd h
@@ -272,11 +267,13 @@ module _ (most r : ℕ) (sub : ℕ → Parser (Tall ExprTree)) (ok : IsCompleteE
   spine roomy (paren at x) least i rest few l a low h c = first roomy (paren at x) least i rest few l refl low h c
 
   expr_in_complete : r < most → (least : ℕ) → 1 ≤ least → IsComplete expr_spelling (IsAt least) expr_height most (suc r) (Before least) (R (expr_in least))
-  expr_in_complete roomy least pos = record { at = λ t i rest few l low h c.
-      let reach = spine roomy t least i rest few l.0 l.1 low h (least_low least (level t) (binds (lexeme_at rest)) l.1 c) in
-      let p = fuel_left reach.fuel (expr_height t) r most reach.enough low roomy in
-      reach.is ∙ ap (λ n. turns n (λ s2. R (climb_step (start t) least s2)) ((t, expr_height t), least_right (level t)) rest) p.1
-      ∙ last_turn p.0 (start t) least (least_right (level t)) (t, expr_height t) rest c }
+  expr_in_complete roomy least pos = record {
+    at = λ t i rest few l low h c.
+        let reach = spine roomy t least i rest few l.0 l.1 low h (least_low least (level t) (binds (lexeme_at rest)) l.1 c) in
+        let p = fuel_left reach.fuel (expr_height t) r most reach.enough low roomy in
+        reach.is ∙ ap (λ n. turns n (λ s2. R (climb_step (start t) least s2)) ((t, expr_height t), least_right (level t)) rest) p.1
+        ∙ last_turn p.0 (start t) least (least_right (level t)) (t, expr_height t) rest c;
+  }
 
 pub expr_complete : (most r : ℕ) → r ≤ most → (least : ℕ) → 1 ≤ least → IsComplete expr_spelling (IsAt least) expr_height most r (Before least) (expr most r least)
 unfolding node

@@ -1,5 +1,5 @@
 -- What the grammar has as a part of an expression is read there.
-use Rattle.std.proofs.Common.{◌≡◌, ℕ, zero, suc, ◌+◌, ◌<◌, ◌≤◌, max, Bool, true, false, List, [], ◌∷◌, ◌++◌, length, Option, Some, None, Ok, refl, sym, ◌∙◌, ap, subst, arith}
+use Rattle.std.proofs.Common.{◌≡◌, ℕ, zero, suc, ◌+◌, ◌<◌, ◌≤◌, max, Bool, true, false, List, [], ◌∷◌, ◌++◌, length, Option, Some, Ok, refl, sym, ◌∙◌, ap, subst, arith}
 use Rattle.svr_token.specs.declared.Lexeme.{Lexeme}
 use Rattle.svr_token.specs.declared.Lexeme.TheVariants as lexeme
 use Rattle.svr_token.specs.declared.Word.TheVariants as w
@@ -8,23 +8,22 @@ use Rattle.svr_token.specs.declared.Mark.TheVariants as m
 use Rattle.svr_typed.specs.declared.UnOp.{UnOp}
 use Rattle.svr_tree.specs.declared.expr.Scope.{Scope}
 use Rattle.svr_tree.specs.declared.expr.Scope.TheVariants as scope
-use Rattle.svr_tree.specs.Tokens.{Tok, Entry, On, FitEach, mark, mark_on, listed, followed, Each, OneOrMore}
+use Rattle.svr_tree.specs.Tokens.{Tok, Entry, FitEach, mark, listed, OneOrMore}
 use Rattle.svr_tree.specs.DeclGrammar.{greatest}
-use Rattle.svr_tree.specs.Operators.{unary_mark}
-use Rattle.svr_tree.specs.ExprTree.{ExprTree, path, bit_select, part_select, unary, join, copies, sign, paren, ExprTrees, RangeTree, one, span, BoundTree, value, dollar, exprs_of}
-use Rattle.svr_tree.specs.ExprGrammar.{names_spelling, scope_spelling, parens_spelling, system_name, expr_spelling, exprs_spelling, range_spelling, bound_spelling, level, start, IsPathAt, is_selectable, is_member, IsExpr, AreExprs, IsRange, IsBound, expr_height, exprs_height, range_height, bound_height}
+use Rattle.svr_tree.specs.ExprTree.{ExprTree, path, bit_select, part_select, unary, join, copies, sign, paren, RangeTree, one, span, BoundTree, value, dollar, exprs_of}
+use Rattle.svr_tree.specs.ExprGrammar.{names_spelling, parens_spelling, system_name, expr_spelling, exprs_spelling, range_spelling, bound_spelling, level, start, IsPathAt, is_selectable, IsExpr, IsRange, IsBound, expr_height, exprs_height, range_height, bound_height}
 use Rattle.svr_reader.specs.declared.fixed.Fixed.{Fixed}
 use Rattle.svr_reader.specs.declared.fixed.Fixed.TheVariants as f
-use Rattle.svr_reader.specs.Program.{Turn, go, done, Program, pure, bind, peek, call, Outcome, Parser, and_then, lexeme_at, number_at, entered, turned, turns, run}
+use Rattle.svr_reader.specs.Program.{go, done, pure, bind, peek, call, Parser, lexeme_at, entered, turned, turns, run}
 use Rattle.svr_reader.specs.Steps.{same_mark, is_fixed, sees, expect}
-use Rattle.svr_reader.specs.Lists.{Tall, led, listing_on}
-use Rattle.svr_reader.proofs.Steps.{bind_is, takes_append, takes_parts, takes_length, takes_less, lexeme_of, lexeme_on, entered_is, expects, led_takes, led_no, choose_true, choose_false, fixed_self}
+use Rattle.svr_reader.specs.Lists.{Tall, listing_on}
+use Rattle.svr_reader.proofs.Steps.{bind_is, takes_parts, takes_less, lexeme_of, lexeme_on, entered_is, expects, led_takes, led_no}
 use Rattle.svr_reader.proofs.Layers.{IsComplete, complete_of}
 use Rattle.svr_reader.proofs.Lists.{listing_complete, listing_on_complete}
-use Rattle.svr_expr.specs.Links.{unary_of, binds}
-use Rattle.svr_expr.specs.ExprRules.{Reader, known_path, path_in, with_parens, parens_on, select_on, suffix_by, suffix_step, with_suffixes, selected, exprs, bound_by, bound, spanned, range_by, range, ranges, enclosed, is_signed, signing, copied, joined, braced, negated, starts, starts_path, prefix_by, prefix}
-use Rattle.svr_expr_laws.proofs.Links.{unary_is, no_dot, binds_gap}
-use Rattle.svr_expr_laws.proofs.Trees.{height_pos, level_pos, list_of, list_is, exprs_spelling_is, exprs_height_is, exprs_are, parens, with_parens_spelling, with_parens_height, begins, expr_long, range_first, range_long}
+use Rattle.svr_expr.specs.Links.{binds}
+use Rattle.svr_expr.specs.ExprRules.{Reader, known_path, path_in, with_parens, parens_on, select_on, suffix_by, suffix_step, with_suffixes, selected, exprs, bound_by, bound, spanned, range_by, range, ranges, enclosed, is_signed, signing, copied, joined, braced, negated, starts, starts_path, prefix_by}
+use Rattle.svr_expr_laws.proofs.Links.{no_dot}
+use Rattle.svr_expr_laws.proofs.Trees.{height_pos, level_pos, exprs_spelling_is, exprs_height_is, parens, with_parens_spelling, with_parens_height, begins, expr_long, range_long}
 use Rattle.svr_expr_laws.proofs.Names.{spelled_known, known_path_complete}
 use Rattle.svr_expr_laws.proofs.SoundParts.{IsAt, Exprs}
 

@@ -1,5 +1,5 @@
 -- Expressions are read from the left; more room and more turns keep what was read.
-use Rattle.std.proofs.Common.{◌≡◌, ℕ, zero, suc, ◌+◌, ◌<◌, ◌≤◌, Bool, true, false, List, length, Option, Some, None, refl, arith}
+use Rattle.std.proofs.Common.{ℕ, zero, suc, ◌≤◌, Bool, true, false, Option, Some, None, refl, arith}
 use Rattle.svr_token.specs.declared.Lexeme.{Lexeme}
 use Rattle.svr_token.specs.declared.Lexeme.TheVariants as lexeme
 use Rattle.svr_token.specs.declared.Word.TheVariants as w
@@ -7,9 +7,8 @@ use Rattle.svr_token.specs.declared.Mark.{Mark}
 use Rattle.svr_token.specs.declared.Mark.TheVariants as m
 use Rattle.svr_token.specs.declared.NameKind.{NameKind}
 use Rattle.svr_typed.specs.declared.UnOp.{UnOp}
-use Rattle.svr_tree.specs.Tokens.{Tok}
 use Rattle.svr_tree.specs.ExprTree.{ExprTree}
-use Rattle.svr_reader.specs.Program.{Program, Parser, run}
+use Rattle.svr_reader.specs.Program.{Parser}
 use Rattle.svr_reader.specs.Lists.{Tall}
 use Rattle.svr_reader.proofs.Local.{IsLocal, local_run}
 use Rattle.svr_reader.proofs.Growth.{Grows, Rooms, grows_run}

@@ -1,6 +1,5 @@
 -- Operators and their tokens.
-use Rattle.std.proofs.Common.{◌≡◌, ℕ, ◌+◌, ◌<◌, ◌≤◌, Bool, true, false, Option, Some, None, refl, sym, ◌∙◌, ap, arith}
-use Rattle.std.specs.Prelude.{nat_lt, nat_le}
+use Rattle.std.proofs.Common.{◌≡◌, ℕ, ◌+◌, ◌<◌, ◌≤◌, true, false, Option, Some, None, refl, ap, arith}
 use Rattle.std.proofs.lemmas.Bool.Decides.{nat_tests}
 use Rattle.svr_token.specs.declared.Lexeme.{Lexeme}
 use Rattle.svr_token.specs.declared.Lexeme.TheVariants as lexeme
@@ -17,7 +16,7 @@ use Rattle.svr_reader.specs.Steps.{same_mark, is_fixed}
 use Rattle.svr_expr.specs.declared.link.Link.{Link}
 use Rattle.svr_expr.specs.declared.link.Link.TheVariants as link
 use Rattle.svr_expr.specs.Links.{unary_of, mark_link, link_of, link_level, link_binds, binds, goes_on}
-use Rattle.svr_expr.specs.ExprRules.{starts, is_operator}
+use Rattle.svr_expr.specs.ExprRules.{starts}
 
 -- ---- levels
 

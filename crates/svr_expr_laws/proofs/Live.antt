@@ -1,5 +1,5 @@
 -- Where the reading of an expression fails, what was read so far can be completed.
-use Rattle.std.proofs.Common.{◌≡◌, ℕ, zero, suc, ◌+◌, ◌<◌, ◌≤◌, max, Bool, true, false, List, [], ◌∷◌, ◌++◌, length, Option, Some, None, Ok, Err, ◌⊎◌, inl, inr, refl, sym, ◌∙◌, ap, subst, arith}
+use Rattle.std.proofs.Common.{◌≡◌, ℕ, zero, suc, ◌+◌, ◌≤◌, max, Bool, true, false, List, [], ◌∷◌, Option, Some, None, Ok, ◌⊎◌, inl, inr, refl, ◌∙◌, arith}
 use Rattle.svr_token.specs.declared.Lexeme.{Lexeme}
 use Rattle.svr_token.specs.declared.Lexeme.TheVariants as lexeme
 use Rattle.svr_token.specs.declared.Word.TheVariants as w
@@ -12,15 +12,14 @@ use Rattle.svr_typed.specs.declared.UnOp.{UnOp}
 use Rattle.svr_typed.specs.declared.BinOp.{BinOp}
 use Rattle.svr_tree.specs.Tokens.{Tok}
 use Rattle.svr_tree.specs.Operators.{precedence, least_right}
-use Rattle.svr_tree.specs.ExprTree.{ExprTree, bit_select, part_select, join, exprs_of, RangeTree}
-use Rattle.svr_tree.specs.ExprGrammar.{expr_height}
+use Rattle.svr_tree.specs.ExprTree.{ExprTree, bit_select, part_select, join, exprs_of}
 use Rattle.svr_reader.specs.declared.fixed.Fixed.TheVariants as f
-use Rattle.svr_reader.specs.Program.{Turn, go, done, Program, pure, bind, peek, here, take, enter, call, loop, Outcome, Parser, lexeme_at, run}
-use Rattle.svr_reader.specs.Steps.{same_mark, is_fixed, choose, expect}
+use Rattle.svr_reader.specs.Program.{Turn, go, done, pure, bind, peek, call, Parser, run}
+use Rattle.svr_reader.specs.Steps.{same_mark, choose, expect}
 use Rattle.svr_reader.specs.Lists.{Tall, led, listing_on}
-use Rattle.svr_reader.proofs.Steps.{bind_is, choose_false, expects, led_no}
+use Rattle.svr_reader.proofs.Steps.{bind_is, expects, led_no}
 use Rattle.svr_reader.proofs.Local.{IsLocal}
-use Rattle.svr_reader.proofs.Live.{AnyToken, Later, Settles, Consumes, Finishes}
+use Rattle.svr_reader.proofs.Live.{AnyToken}
 use Rattle.svr_reader.proofs.LiveLoops.{Then}
 use Rattle.svr_reader.proofs.Goals.{Goal, Form, then_goal, then_form, goal_of, pure_goal, take_form, enter_form, peek_form, here_form, refuse_form, narrow_form, wide_goal}
 use Rattle.svr_reader.proofs.Led.{AnyAnswer, tok, expect_form, goal_expect, led_form}
@@ -29,8 +28,8 @@ use Rattle.svr_reader.proofs.Rooms.{none_never, none_later}
 use Rattle.svr_reader.proofs.Layers.{IsViable, IsOpen, Low, Part}
 use Rattle.svr_expr.specs.declared.link.Link.{Link}
 use Rattle.svr_expr.specs.declared.link.Link.TheVariants as link
-use Rattle.svr_expr.specs.Links.{unary_of, link_of, link_level, binds, goes_on}
-use Rattle.svr_expr.specs.ExprRules.{Reader, known_path, path_in, member_in, with_parens, parens_on, select_on, suffix_by, suffix_step, with_suffixes, selected, exprs, range, literal, enclosed, signing, copied, joined, braced, negated, negated_by, prefix_by, prefix, operated, chosen, among, extend_by, extend, climb_by, climb_step, climb, expr_in, starts_path, starts, an_expr, a_path, a_member, rest_of, links_of, node, expr, a_known_path, some_exprs, a_range}
+use Rattle.svr_expr.specs.Links.{unary_of, link_of, link_level, goes_on}
+use Rattle.svr_expr.specs.ExprRules.{Reader, parens_on, select_on, suffix_by, suffix_step, with_suffixes, selected, literal, enclosed, signing, copied, joined, braced, negated, negated_by, prefix_by, prefix, operated, chosen, among, extend_by, extend, climb_by, climb_step, climb, expr_in, starts_path, starts, a_path, a_member, rest_of, links_of, node, expr, a_known_path, some_exprs, a_range}
 use Rattle.svr_expr_laws.proofs.Links.{precedence_pos, precedence_low, right_pos, right_low, link_pos, binds_link}
 use Rattle.svr_expr_laws.proofs.CompleteParts.{IsCompleteExpr}
 use Rattle.svr_expr_laws.proofs.Complete.{expr_complete}

@@ -1,35 +1,30 @@
 -- Where the reading of a part of an expression fails, what was read so far can be completed.
-use Rattle.std.proofs.Common.{◌≡◌, ℕ, zero, suc, ◌+◌, ◌<◌, ◌≤◌, max, Bool, true, false, List, [], ◌∷◌, ◌++◌, length, Option, Some, None, Ok, Err, ◌⊎◌, inl, inr, refl, sym, ◌∙◌, ap, subst, arith}
+use Rattle.std.proofs.Common.{◌≡◌, ℕ, suc, ◌≤◌, Bool, true, false, List, [], ◌∷◌, ◌++◌, Option, Some, Ok, ◌⊎◌, inl, inr, refl, arith}
 use Rattle.svr_token.specs.declared.Lexeme.{Lexeme}
 use Rattle.svr_token.specs.declared.Lexeme.TheVariants as lexeme
 use Rattle.svr_token.specs.declared.Word.TheVariants as w
-use Rattle.svr_token.specs.declared.Mark.{Mark}
 use Rattle.svr_token.specs.declared.Mark.TheVariants as m
 use Rattle.svr_token.specs.declared.NameKind.{NameKind}
 use Rattle.svr_token.specs.declared.NameKind.TheVariants as name_kind
-use Rattle.svr_token.specs.declared.SystemName.{SystemName}
-use Rattle.svr_typed.specs.declared.UnOp.{UnOp}
 use Rattle.svr_tree.specs.declared.expr.Scope.{Scope}
 use Rattle.svr_tree.specs.declared.expr.Scope.TheVariants as scope
 use Rattle.svr_tree.specs.Tokens.{Tok}
-use Rattle.svr_tree.specs.ExprTree.{ExprTree, path, RangeTree, one, BoundTree, value}
-use Rattle.svr_tree.specs.ExprGrammar.{expr_spelling, expr_height}
-use Rattle.svr_reader.specs.declared.fixed.Fixed.{Fixed}
+use Rattle.svr_tree.specs.ExprTree.{ExprTree, one, value}
 use Rattle.svr_reader.specs.declared.fixed.Fixed.TheVariants as f
-use Rattle.svr_reader.specs.Program.{Turn, go, done, Program, pure, bind, peek, here, take, enter, call, loop, Outcome, Parser, lexeme_at, run}
-use Rattle.svr_reader.specs.Steps.{same_mark, fixed_lexeme, is_fixed, choose, expect}
+use Rattle.svr_reader.specs.Program.{Turn, go, done, Program, pure, bind, peek, call, loop, Parser, lexeme_at, run}
+use Rattle.svr_reader.specs.Steps.{same_mark, is_fixed, choose}
 use Rattle.svr_reader.specs.Lists.{Tall, led, listing_on}
-use Rattle.svr_reader.proofs.Steps.{bind_is, choose_false, expects, led_no}
+use Rattle.svr_reader.proofs.Steps.{bind_is, choose_false}
 use Rattle.svr_reader.proofs.Local.{IsLocal}
-use Rattle.svr_reader.proofs.Live.{AnyToken, Later, Settles, Consumes, Finishes}
+use Rattle.svr_reader.proofs.Live.{AnyToken, Finishes}
 use Rattle.svr_reader.proofs.LiveLoops.{Then}
-use Rattle.svr_reader.proofs.Goals.{Goal, Form, then_goal, then_form, goal_of, pure_goal, take_form, enter_form, peek_form, here_form, refuse_form, weaken_form, weaken_goal, any_goal, wide_goal}
-use Rattle.svr_reader.proofs.Led.{AnyAnswer, tok, expect_form, goal_expect, led_form}
+use Rattle.svr_reader.proofs.Goals.{Goal, Form, then_goal, then_form, goal_of, pure_goal, take_form, enter_form, peek_form, here_form, refuse_form, weaken_form, any_goal, wide_goal}
+use Rattle.svr_reader.proofs.Led.{AnyAnswer, goal_expect}
 use Rattle.svr_reader.proofs.LiveTurns.{Stops, led_loop_goal, peek_loop_goal}
 use Rattle.svr_reader.proofs.LiveLists.{listing_on_goal, listing_form, listing_goal}
 use Rattle.svr_reader.proofs.Layers.{IsViable, Low, Part}
-use Rattle.svr_expr.specs.Links.{unary_of, binds}
-use Rattle.svr_expr.specs.ExprRules.{Reader, known_name_by, known_name, name, name_step, names_on, path_from, plain_path, local_path, this_path, known_path_by, known_path, path_in, indexed, member_step, member_in, parens_on, with_parens, select_on, suffix_by, suffix_step, with_suffixes, selected, exprs, bound_by, bound, spanned, range_by, range, ranges, literal, enclosed, signing, copied, joined, braced, negated, negated_by, prefix_by, prefix}
+use Rattle.svr_expr.specs.Links.{binds}
+use Rattle.svr_expr.specs.ExprRules.{Reader, known_name_by, known_name, name, name_step, names_on, path_from, plain_path, local_path, this_path, known_path_by, known_path, path_in, indexed, member_step, member_in, exprs, bound_by, bound, spanned, range_by, range, ranges}
 use Rattle.svr_expr_laws.proofs.CompleteParts.{IsCompleteExpr}
 use Rattle.svr_expr_laws.proofs.Nodes.{NotDot, NotSelect, name_tok, name_expr, name_takes}
 

@@ -1,5 +1,5 @@
 -- Names joined by dots, and paths, with the kind of the last name: what is read spells them, and what spells them is read.
-use Rattle.std.proofs.Common.{◌≡◌, ◌≢◌, ℕ, zero, suc, ◌+◌, ◌<◌, ◌≤◌, Bool, true, false, List, [], ◌∷◌, ◌++◌, length, Option, Some, None, Ok, refl, sym, ◌∙◌, ap, subst, arith, append_assoc}
+use Rattle.std.proofs.Common.{◌≡◌, ℕ, zero, suc, ◌+◌, ◌<◌, ◌≤◌, false, List, [], ◌∷◌, ◌++◌, length, Option, Some, Ok, refl, sym, ◌∙◌, ap, subst, arith, append_assoc}
 use Rattle.std.proofs.lemmas.List.{append-nil}
 use Rattle.svr_token.specs.declared.Lexeme.{Lexeme}
 use Rattle.svr_token.specs.declared.Lexeme.TheVariants as lexeme
@@ -8,14 +8,14 @@ use Rattle.svr_token.specs.declared.Mark.TheVariants as m
 use Rattle.svr_token.specs.declared.NameKind.{NameKind}
 use Rattle.svr_tree.specs.declared.expr.Scope.{Scope}
 use Rattle.svr_tree.specs.declared.expr.Scope.TheVariants as scope
-use Rattle.svr_tree.specs.Tokens.{Tok, Entry, On, Any, Name, FitEach, mark}
+use Rattle.svr_tree.specs.Tokens.{Tok, Entry, On, Name, FitEach, mark}
 use Rattle.svr_tree.specs.ExprTree.{ExprTree, path}
-use Rattle.svr_tree.specs.ExprGrammar.{dotted, names_spelling, scope_spelling, expr_spelling, IsPathAt}
+use Rattle.svr_tree.specs.ExprGrammar.{names_spelling, scope_spelling, expr_spelling, IsPathAt}
 use Rattle.svr_reader.specs.declared.fixed.Fixed.{Fixed}
 use Rattle.svr_reader.specs.declared.fixed.Fixed.TheVariants as f
-use Rattle.svr_reader.specs.Program.{Turn, go, done, Program, pure, bind, Outcome, Parser, lexeme_at, number_at, turns, taken, run}
-use Rattle.svr_reader.specs.Steps.{fixed_lexeme, is_fixed, sees, expect}
-use Rattle.svr_reader.proofs.Steps.{bind_ok, bind_is, yields, turn_ok, takes_append, takes_parts, takes_length, takes_first, lexeme_on, expect_ok, expects, led_ok, led_takes, led_no}
+use Rattle.svr_reader.specs.Program.{Turn, go, done, Program, pure, bind, Parser, lexeme_at, number_at, turns, run}
+use Rattle.svr_reader.specs.Steps.{sees, expect}
+use Rattle.svr_reader.proofs.Steps.{bind_ok, bind_is, yields, turn_ok, takes_append, takes_parts, takes_length, expect_ok, expects, led_ok, led_takes, led_no}
 use Rattle.svr_expr.specs.ExprRules.{known_name_by, known_name, name, name_step, names_on, path_from, plain_path, local_path, this_path, known_path_by, known_path}
 
 -- ---- names of which the kind of the last one is told

@@ -1,35 +1,31 @@
 -- Paths, members, lists and ranges are read; and an expression whose first path was read already goes on as a whole one.
-use Rattle.std.proofs.Common.{◌≡◌, ℕ, zero, suc, ◌+◌, ◌<◌, ◌≤◌, max, Bool, true, false, List, [], ◌∷◌, ◌++◌, length, Option, Some, None, Ok, Err, refl, sym, ◌∙◌, ap, subst, arith}
+use Rattle.std.proofs.Common.{◌≡◌, ℕ, zero, suc, ◌+◌, ◌<◌, ◌≤◌, max, true, false, List, [], ◌∷◌, ◌++◌, length, Option, Some, Ok, Err, refl, sym, ◌∙◌, ap, subst, arith}
 use Rattle.svr_token.specs.declared.Lexeme.{Lexeme}
 use Rattle.svr_token.specs.declared.Lexeme.TheVariants as lexeme
-use Rattle.svr_token.specs.declared.Mark.{Mark}
 use Rattle.svr_token.specs.declared.Mark.TheVariants as m
 use Rattle.svr_token.specs.declared.NameKind.{NameKind}
 use Rattle.svr_token.specs.declared.NameKind.TheVariants as name_kind
 use Rattle.svr_typed.specs.declared.BinOp.{BinOp}
 use Rattle.svr_tree.specs.declared.expr.Scope.{Scope}
 use Rattle.svr_tree.specs.declared.expr.Scope.TheVariants as scope
-use Rattle.svr_tree.specs.Tokens.{Tok, Entry, FitEach, mark, listed, OneOrMore}
-use Rattle.svr_tree.specs.DeclGrammar.{greatest}
+use Rattle.svr_tree.specs.Tokens.{Tok, FitEach, mark}
 use Rattle.svr_tree.specs.Operators.{binary_mark, precedence, least_right}
-use Rattle.svr_tree.specs.ExprTree.{ExprTree, path, bit_select, binary, RangeTree, exprs_of}
-use Rattle.svr_tree.specs.ExprGrammar.{scope_spelling, expr_spelling, exprs_spelling, range_spelling, level, start, IsPathAt, is_selectable, is_path, is_member, IsExpr, AreExprs, IsRange, expr_height, exprs_height, range_height}
+use Rattle.svr_tree.specs.ExprTree.{ExprTree, path, bit_select, binary, exprs_of}
+use Rattle.svr_tree.specs.ExprGrammar.{scope_spelling, expr_spelling, exprs_spelling, range_spelling, start, IsPathAt, is_member, IsExpr, AreExprs, IsRange, expr_height, exprs_height, range_height}
 use Rattle.svr_tree.specs.ItemGrammar.{IsPath, IsMember}
 use Rattle.svr_reader.specs.declared.fixed.Fixed.TheVariants as f
-use Rattle.svr_reader.specs.Program.{Turn, go, done, Program, pure, bind, call, Outcome, Parser, and_then, lexeme_at, number_at, next, entered, turned, turns, run}
-use Rattle.svr_reader.specs.Steps.{same_mark, is_fixed, sees, expect}
+use Rattle.svr_reader.specs.Program.{go, done, Outcome, Parser, and_then, lexeme_at, number_at, next, entered, turned, turns, run}
+use Rattle.svr_reader.specs.Steps.{same_mark, is_fixed, expect}
 use Rattle.svr_reader.specs.Lists.{Tall}
 use Rattle.svr_reader.proofs.Steps.{bind_is, takes_parts, takes_less, lexeme_of, entered_is, expects, choose_true, choose_false, fixed_self}
 use Rattle.svr_reader.proofs.Led.{tok}
 use Rattle.svr_reader.proofs.Layers.{IsComplete}
-use Rattle.svr_expr.specs.declared.link.Link.{Link}
 use Rattle.svr_expr.specs.declared.link.Link.TheVariants as link
-use Rattle.svr_expr.specs.Links.{link_level, binds}
-use Rattle.svr_expr.specs.ExprRules.{Reader, known_path, path_in, indexed, member_step, member_in, with_parens, parens_on, suffix_by, suffix_step, with_suffixes, selected, prefix, extend, climb_step, climb, expr_in, an_expr, a_path, a_member, rest_of, links_of, node, expr, a_known_path, some_exprs, a_range, starts_path}
-use Rattle.svr_expr_laws.proofs.Links.{precedence_pos, precedence_low, right_pos, goes, spelled_binds}
+use Rattle.svr_expr.specs.Links.{binds}
+use Rattle.svr_expr.specs.ExprRules.{Reader, known_path, path_in, indexed, member_step, member_in, with_parens, parens_on, suffix_by, suffix_step, with_suffixes, selected, prefix, extend, climb_step, climb, expr_in, a_path, a_member, rest_of, links_of, node, expr, a_known_path, some_exprs, a_range, starts_path}
+use Rattle.svr_expr_laws.proofs.Links.{precedence_pos, precedence_low, right_pos, goes}
 use Rattle.svr_expr_laws.proofs.Trees.{height_pos, level_pos, exprs_spelling_is, exprs_height_is, exprs_are, parens, begins}
 use Rattle.svr_expr_laws.proofs.Names.{names_known, known_path_complete}
-use Rattle.svr_expr_laws.proofs.SoundParts.{IsAt, Exprs}
 use Rattle.svr_expr_laws.proofs.CompleteParts.{Before, EndsList, IsCompleteExpr, before_mark, sees_none, fuel_left, exprs_complete, range_complete, path_in_complete, by_path}
 use Rattle.svr_expr_laws.proofs.Complete.{turn, extended, operated_complete, last_turn, after_token, next_less, expr_complete}
 
@@ -96,11 +92,13 @@ module _ (most r : ℕ) (sub : ℕ → Parser (Tall ExprTree)) (ok : IsCompleteE
 
   member_complete : r < most → IsComplete expr_spelling IsMember expr_height most (suc r) NotSelect (R member_in)
   unfolding member_step
-  member_complete roomy = record { at = λ t i rest few l low h c.
-      let d = indexed_way roomy t i rest few l.0 l.1 low h c.0 in
-      let p = fuel_left d.fuel (expr_height t) r most d.enough low roomy in
-      d.is ∙ ap (λ n. turns n (λ s2. R (member_step (start t) s2)) (t, expr_height t) rest) p.1
-      ∙ bind_is (R (member_step (start t) (t, expr_height t)) rest) (turned (turns p.0 (λ s2. R (member_step (start t) s2)))) (done (t, expr_height t)) rest _ (choose_false most r sub _ _ _ rest c.1) refl }
+  member_complete roomy = record {
+    at = λ t i rest few l low h c.
+        let d = indexed_way roomy t i rest few l.0 l.1 low h c.0 in
+        let p = fuel_left d.fuel (expr_height t) r most d.enough low roomy in
+        d.is ∙ ap (λ n. turns n (λ s2. R (member_step (start t) s2)) (t, expr_height t) rest) p.1
+        ∙ bind_is (R (member_step (start t) (t, expr_height t)) rest) (turned (turns p.0 (λ s2. R (member_step (start t) s2)))) (done (t, expr_height t)) rest _ (choose_false most r sub _ _ _ rest c.1) refl;
+  }
 
   path_complete : IsComplete expr_spelling IsPath expr_height most (suc r) NotDot (R path_in)
   path_complete = record { at = λ t i rest few l low h c. by t i rest few l h c }
@@ -129,10 +127,12 @@ a_known_path_complete most (suc r) fits at s names k i rest few g h c = known_pa
 
 pub some_exprs_complete : (most r : ℕ) → r ≤ most → IsComplete (λ xs. exprs_spelling (exprs_of xs)) (λ xs. AreExprs (exprs_of xs)) (λ xs. exprs_height (exprs_of xs)) most r EndsList (some_exprs most r)
 unfolding some_exprs
-some_exprs_complete most r roomy = record { at = λ xs i rest few l low h c.
-    let high = exprs_height_is xs in
-    (exprs_complete most r (expr most r) (expr_complete most r roomy)).at xs i rest few (exprs_are xs l) (subst (λ z. z ≤ r) high low) (subst (λ es. FitEach i es rest) (exprs_spelling_is xs) h) c
-    ∙ ap (λ z. Ok ((xs, z), rest)) (sym high) }
+some_exprs_complete most r roomy = record {
+  at = λ xs i rest few l low h c.
+      let high = exprs_height_is xs in
+      (exprs_complete most r (expr most r) (expr_complete most r roomy)).at xs i rest few (exprs_are xs l) (subst (λ z. z ≤ r) high low) (subst (λ es. FitEach i es rest) (exprs_spelling_is xs) h) c
+      ∙ ap (λ z. Ok ((xs, z), rest)) (sym high);
+}
 
 pub a_range_complete : (most r : ℕ) → r ≤ most → IsComplete range_spelling IsRange range_height most r (Before 1) (a_range most r)
 unfolding a_range

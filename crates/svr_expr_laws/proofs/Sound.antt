@@ -1,33 +1,31 @@
 -- What is read is an expression of the grammar that spells the tokens.
-use Rattle.std.proofs.Common.{◌≡◌, ℕ, zero, suc, ◌+◌, ◌<◌, ◌≤◌, max, Bool, true, false, List, [], ◌∷◌, ◌++◌, length, Option, Some, None, Ok, Err, refl, sym, ◌∙◌, ap, subst, arith}
-use Rattle.svr_token.specs.declared.Lexeme.{Lexeme}
+use Rattle.std.proofs.Common.{◌≡◌, ℕ, zero, suc, ◌<◌, ◌≤◌, true, List, [], ◌∷◌, ◌++◌, Option, Some, None, Ok, refl, sym, ◌∙◌, ap, subst, arith}
 use Rattle.svr_token.specs.declared.Lexeme.TheVariants as lexeme
 use Rattle.svr_token.specs.declared.Word.TheVariants as w
 use Rattle.svr_token.specs.declared.Mark.TheVariants as m
 use Rattle.svr_token.specs.declared.NameKind.{NameKind}
 use Rattle.svr_typed.specs.declared.BinOp.{BinOp}
-use Rattle.svr_tree.specs.Tokens.{Tok, Entry, FitEach, mark, word}
-use Rattle.svr_tree.specs.Operators.{binary_mark, precedence, least_left, least_right}
-use Rattle.svr_tree.specs.ExprTree.{ExprTree, path, bit_select, binary, choice, inside, RangeTree, exprs_of, ranges_of}
+use Rattle.svr_tree.specs.Tokens.{Tok, FitEach, mark, word}
+use Rattle.svr_tree.specs.Operators.{binary_mark, precedence, least_right}
+use Rattle.svr_tree.specs.ExprTree.{ExprTree, exprs_of, ranges_of}
 use Rattle.svr_tree.specs.DeclGrammar.{greatest}
-use Rattle.svr_tree.specs.ExprGrammar.{expr_spelling, exprs_spelling, ranges_spelling, range_spelling, level, start, is_selectable, is_path, is_member, IsExpr, AreExprs, IsRange, expr_height, exprs_height, ranges_height, range_height}
+use Rattle.svr_tree.specs.ExprGrammar.{expr_spelling, exprs_spelling, ranges_spelling, range_spelling, level, start, is_path, is_member, IsExpr, AreExprs, IsRange, expr_height, exprs_height, ranges_height, range_height}
 use Rattle.svr_tree.specs.ItemGrammar.{IsPath, IsMember}
 use Rattle.svr_reader.specs.declared.fixed.Fixed.TheVariants as f
-use Rattle.svr_reader.specs.declared.fault.ReadFault.TheVariants.{NoMemory, Unexpected, TooDeep}
-use Rattle.svr_reader.specs.Program.{Turn, go, done, Program, pure, bind, call, Outcome, Parser, and_then, lexeme_at, number_at, entered, turns, run}
+use Rattle.svr_reader.specs.Program.{Turn, go, done, Parser, lexeme_at, number_at, entered, turns, run}
 use Rattle.svr_reader.specs.Steps.{is_fixed, expect}
-use Rattle.svr_reader.specs.Lists.{Tall, no_room}
-use Rattle.svr_reader.proofs.Steps.{bind_ok, yields, turn_ok, takes_append, Enters, entered_ok, choose_ok, expect_ok, fixed_is}
+use Rattle.svr_reader.specs.Lists.{Tall}
+use Rattle.svr_reader.proofs.Steps.{bind_ok, yields, turn_ok, takes_append, entered_ok, choose_ok, expect_ok, fixed_is}
 use Rattle.svr_reader.proofs.Rooms.{none_never}
-use Rattle.svr_reader.proofs.Layers.{ReadAs, IsSound, sound_of}
+use Rattle.svr_reader.proofs.Layers.{ReadAs, IsSound}
 use Rattle.svr_expr.specs.declared.link.Link.{Link}
 use Rattle.svr_expr.specs.declared.link.Link.TheVariants as link
 use Rattle.svr_expr.specs.Links.{link_of, link_level, goes_on}
-use Rattle.svr_expr.specs.ExprRules.{Reader, known_path, path_in, indexed, member_step, member_in, with_suffixes, ranges, prefix, operated, chosen, among, extend_by, extend, climb_by, climb_step, climb, expr_in, an_expr, a_path, a_member, rest_of, links_of, node, expr, starts, starts_path, a_known_path, some_exprs, a_range}
+use Rattle.svr_expr.specs.ExprRules.{Reader, known_path, path_in, indexed, member_step, member_in, with_suffixes, ranges, prefix, operated, chosen, among, extend_by, extend, climb_by, climb_step, climb, expr_in, a_path, a_member, rest_of, links_of, node, expr, starts, starts_path, a_known_path, some_exprs, a_range}
 use Rattle.svr_expr_laws.proofs.Links.{precedence_low, link_low, groups, right_low, goes_ok, spells_link, link_back}
 use Rattle.svr_expr_laws.proofs.Trees.{begins, ranges_spelling_is, ranges_height_is, are_ranges, exprs_spelling_is, exprs_height_is, are_exprs}
 use Rattle.svr_expr_laws.proofs.Names.{KnownPath, known_path_sound}
-use Rattle.svr_expr_laws.proofs.SoundParts.{IsAt, IsPrimary, IsBase, ReadPrimary, first_of, ranges_sound, exprs_sound, range_sound, path_in_sound, with_suffixes_sound, prefix_sound}
+use Rattle.svr_expr_laws.proofs.SoundParts.{IsAt, IsBase, ReadPrimary, first_of, ranges_sound, exprs_sound, range_sound, path_in_sound, with_suffixes_sound, prefix_sound}
 
 -- a left operand that was read from i0, and goes on at i
 pub record IsLeft (r at least : ℕ) (i0 : List Tok) (x : Tall ExprTree) (i : List Tok) : Type 0 where
@@ -62,14 +60,17 @@ module _ (most r : ℕ) (sub : ℕ → Parser (Tall ExprTree)) (ok : (least : �
   unfolding operated
   operated_sound at least i0 left t i op y l low k above binding h = bind_ok (sub (least_right (precedence op)) i) _ y h (λ x j e g.
       let s = (ok (least_right (precedence op)) (right_low (precedence op) 12 (precedence_low op) (omega arith))).at i x j e in
-      yields (Extended at least i0 (precedence op)) _ _ y g (record {
-        takes = takes_append i0 (expr_spelling left.0) (mark (binary_mark op) ∷ expr_spelling x.0) (t ∷ i) j l.takes (k, s.takes);
-        is = (l.begins, l.is, s.is.0, groups (precedence op) (level left.0) binding, s.is.1);
-        above = above;
-        tall = omega (arith, l.tall, s.tall);
-        low = omega (arith, low, s.low);
-        begins = refl;
-      }, refl))
+      yields (Extended at least i0 (precedence op)) _ _ y g (
+        record {
+          takes = takes_append i0 (expr_spelling left.0) (mark (binary_mark op) ∷ expr_spelling x.0) (t ∷ i) j l.takes (k, s.takes);
+          is = (l.begins, l.is, s.is.0, groups (precedence op) (level left.0) binding, s.is.1);
+          above = above;
+          tall = omega (arith, l.tall, s.tall);
+          low = omega (arith, low, s.low);
+          begins = refl;
+        },
+        refl,
+      ))
 
   chosen_sound : (at least : ℕ) (i0 : List Tok) (left : Tall ExprTree) (t : Tok) (i : List Tok) (y : Tall ExprTree × List Tok)
       → IsLeft r at least i0 left (t ∷ i) → left.1 ≤ r → t.lexeme ≡ lexeme.Mark m.Question → least ≤ 2 → 2 < least_right (level left.0) → R (chosen at left) i ≡ Ok y → Extended at least i0 2 y.0 y.1
@@ -79,15 +80,18 @@ module _ (most r : ℕ) (sub : ℕ → Parser (Tall ExprTree)) (ok : (least : �
       let a = (ok 1 (omega arith)).at i met j e in
       let z = (ok 2 (omega arith)).at j2 unmet j3 e3 in
       let colon : FitEach j (mark m.Colon ∷ []) j2 = expect_ok most r sub (f.Mark m.Colon) j (u, j2) e2 in
-      yields (Extended at least i0 2) _ _ y g3 (record {
-        takes = takes_append i0 (expr_spelling left.0) (mark m.Question ∷ (expr_spelling met.0 ++ mark m.Colon ∷ expr_spelling unmet.0)) (t ∷ i) j3 l.takes
-            (k, takes_append i (expr_spelling met.0) (mark m.Colon ∷ expr_spelling unmet.0) j j3 a.takes (takes_append j (mark m.Colon ∷ []) (expr_spelling unmet.0) j2 j3 colon z.takes));
-        is = (l.begins, l.is, a.is.0, z.is.0, groups 2 (level left.0) binding, z.is.1);
-        above = above;
-        tall = omega (arith, l.tall, a.tall, z.tall);
-        low = omega (arith, low, a.low, z.low);
-        begins = refl;
-      }, refl))))
+      yields (Extended at least i0 2) _ _ y g3 (
+        record {
+          takes = takes_append i0 (expr_spelling left.0) (mark m.Question ∷ (expr_spelling met.0 ++ mark m.Colon ∷ expr_spelling unmet.0)) (t ∷ i) j3 l.takes
+              (k, takes_append i (expr_spelling met.0) (mark m.Colon ∷ expr_spelling unmet.0) j j3 a.takes (takes_append j (mark m.Colon ∷ []) (expr_spelling unmet.0) j2 j3 colon z.takes));
+          is = (l.begins, l.is, a.is.0, z.is.0, groups 2 (level left.0) binding, z.is.1);
+          above = above;
+          tall = omega (arith, l.tall, a.tall, z.tall);
+          low = omega (arith, low, a.low, z.low);
+          begins = refl;
+        },
+        refl,
+      ))))
 
   among_sound : (at least : ℕ) (i0 : List Tok) (left : Tall ExprTree) (t : Tok) (i : List Tok) (y : Tall ExprTree × List Tok)
       → IsLeft r at least i0 left (t ∷ i) → left.1 ≤ r → t.lexeme ≡ lexeme.Word w.Inside → least ≤ 9 → 9 < least_right (level left.0) → R (among at left) i ≡ Ok y → Extended at least i0 9 y.0 y.1
@@ -97,16 +101,21 @@ module _ (most r : ℕ) (sub : ℕ → Parser (Tall ExprTree)) (ok : (least : �
       let d = (ranges_sound most r sub ok).at j xs j2 e2 in
       let takes : FitEach j (ranges_spelling (ranges_of xs.0)) j2 = subst (λ es. FitEach j es j2) (sym (ranges_spelling_is xs.0)) d.takes in
       let high : ranges_height (ranges_of xs.0) ≡ greatest range_height xs.0 = ranges_height_is xs.0 in
-      yields (Extended at least i0 9) _ _ y g3 (record {
-        takes = takes_append i0 (expr_spelling left.0) (word w.Inside ∷ (mark m.OpenBrace ∷ (ranges_spelling (ranges_of xs.0) ++ mark m.CloseBrace ∷ []))) (t ∷ i) j3 l.takes
-            (k, takes_append i (mark m.OpenBrace ∷ []) (ranges_spelling (ranges_of xs.0) ++ mark m.CloseBrace ∷ []) j j3 (expect_ok most r sub (f.Mark m.OpenBrace) i (u, j) e)
-            (takes_append j (ranges_spelling (ranges_of xs.0)) (mark m.CloseBrace ∷ []) j2 j3 takes (expect_ok most r sub (f.Mark m.CloseBrace) j2 (u2, j3) e3)));
-        is = (l.begins, l.is, are_ranges xs.0 d.is, groups 9 (level left.0) binding);
-        above = above;
-        tall = omega (arith, l.tall, d.tall, high);
-        low = omega (arith, low, d.low);
-        begins = refl;
-      }, refl))))
+      yields (Extended at least i0 9) _ _ y g3 (
+        record {
+          takes = takes_append i0 (expr_spelling left.0) (word w.Inside ∷ (mark m.OpenBrace ∷ (ranges_spelling (ranges_of xs.0) ++ mark m.CloseBrace ∷ []))) (t ∷ i) j3 l.takes (
+            k,
+            takes_append i (mark m.OpenBrace ∷ []) (ranges_spelling (ranges_of xs.0) ++ mark m.CloseBrace ∷ []) j j3 (expect_ok most r sub (f.Mark m.OpenBrace) i (u, j) e)
+                (takes_append j (ranges_spelling (ranges_of xs.0)) (mark m.CloseBrace ∷ []) j2 j3 takes (expect_ok most r sub (f.Mark m.CloseBrace) j2 (u2, j3) e3)),
+          );
+          is = (l.begins, l.is, are_ranges xs.0 d.is, groups 9 (level left.0) binding);
+          above = above;
+          tall = omega (arith, l.tall, d.tall, high);
+          low = omega (arith, low, d.low);
+          begins = refl;
+        },
+        refl,
+      ))))
 
   extend_by_sound : (at least : ℕ) (i0 : List Tok) (left : Tall ExprTree) (t : Tok) (i : List Tok) (k : Link) (y : Tall ExprTree × List Tok)
       → IsLeft r at least i0 left (t ∷ i) → left.1 ≤ r → t.lexeme ≡ spells_link k → least ≤ link_level k → link_level k < least_right (level left.0) → R (extend_by at left k) i ≡ Ok y → Extended at least i0 (link_level k) y.0 y.1
@@ -162,9 +171,11 @@ module _ (most r : ℕ) (sub : ℕ → Parser (Tall ExprTree)) (ok : (least : �
 
   expr_in_sound : (least : ℕ) → least ≤ 13 → IsSound expr_spelling (IsAt least) expr_height (suc r) (R (expr_in least))
   unfolding expr_in
-  expr_in_sound least low = record { at = λ i y j h. bind_ok (R prefix i) _ (y, j) h (λ x mid e g.
-      let p = prefix_sound most r sub ok i (x, mid) e in
-      left_read r (number_at i) least i y j (climb_sound (number_at i) least i x mid (y, j) (left_of r least i x mid low p) (primary_binding x.0 p.is.1 mid) g)) }
+  expr_in_sound least low = record {
+    at = λ i y j h. bind_ok (R prefix i) _ (y, j) h (λ x mid e g.
+        let p = prefix_sound most r sub ok i (x, mid) e in
+        left_read r (number_at i) least i y j (climb_sound (number_at i) least i x mid (y, j) (left_of r least i x mid low p) (primary_binding x.0 p.is.1 mid) g));
+  }
 
   -- ---- paths and members
 
@@ -186,15 +197,18 @@ module _ (most r : ℕ) (sub : ℕ → Parser (Tall ExprTree)) (ok : (least : �
       let brace : Some n.t.lexeme ≡ Some (lexeme.Mark m.OpenBracket) = first_of n.t j i _ n.is k in
       let is : n.t.lexeme ≡ lexeme.Mark m.OpenBracket = cc in
       let before : FitEach i0 (expr_spelling base.0) (n.t ∷ j) = subst (λ z. FitEach i0 (expr_spelling base.0) z) n.is b.0.takes in
-      yields (MemberBase at i0) _ _ y g5 (record {
-        takes = takes_append i0 (expr_spelling base.0) (mark m.OpenBracket ∷ (expr_spelling x.0 ++ mark m.CloseBracket ∷ [])) (n.t ∷ j) j5 before
-            (is, takes_append j (expr_spelling x.0) (mark m.CloseBracket ∷ []) j2 j5 s.takes (expect_ok most r sub (f.Mark m.CloseBracket) j2 (u, j5) e5));
-        is = (b.0.begins, b.0.is, s.is.0, b.0.selects);
-        selects = refl;
-        tall = omega (arith, b.0.tall, s.tall);
-        low = omega (arith, n.fits, s.low);
-        begins = refl;
-      }, b.1))))
+      yields (MemberBase at i0) _ _ y g5 (
+        record {
+          takes = takes_append i0 (expr_spelling base.0) (mark m.OpenBracket ∷ (expr_spelling x.0 ++ mark m.CloseBracket ∷ [])) (n.t ∷ j) j5 before
+              (is, takes_append j (expr_spelling x.0) (mark m.CloseBracket ∷ []) j2 j5 s.takes (expect_ok most r sub (f.Mark m.CloseBracket) j2 (u, j5) e5));
+          is = (b.0.begins, b.0.is, s.is.0, b.0.selects);
+          selects = refl;
+          tall = omega (arith, b.0.tall, s.tall);
+          low = omega (arith, n.fits, s.low);
+          begins = refl;
+        },
+        b.1,
+      ))))
 
   member_step_ok : {G : Type 0} (at : ℕ) (i0 : List Tok) (base : Tall ExprTree) (i : List Tok) (v : Turn (Tall ExprTree) (Tall ExprTree)) (j : List Tok) → MemberBase at i0 base i → R (member_step at base) i ≡ Ok (v, j)
       → ((x : Tall ExprTree) → v ≡ go x → MemberBase at i0 x j → G) → (v ≡ done base → MemberBase at i0 base j → G) → G
@@ -218,9 +232,11 @@ module _ (most r : ℕ) (sub : ℕ → Parser (Tall ExprTree)) (ok : (least : �
 
   pub member_sound : IsSound expr_spelling IsMember expr_height (suc r) (R member_in)
   unfolding member_in
-  member_sound = record { at = λ i x j h. bind_ok (R path_in i) _ (x, j) h (λ p mid e g.
-      let b = member_turns_sound (number_at i) most i p mid (x, j) (path_in_sound most r sub ok i (p, mid) e, (path_tree i (p, mid) e).1) g in
-      record { takes = b.0.takes; is = (b.0.is, b.1); tall = b.0.tall; low = b.0.low }) }
+  member_sound = record {
+    at = λ i x j h. bind_ok (R path_in i) _ (x, j) h (λ p mid e g.
+        let b = member_turns_sound (number_at i) most i p mid (x, j) (path_in_sound most r sub ok i (p, mid) e, (path_tree i (p, mid) e).1) g in
+        record { takes = b.0.takes; is = (b.0.is, b.1); tall = b.0.tall; low = b.0.low });
+  }
 
 -- ---- nodes of every height
 
@@ -241,12 +257,14 @@ a_member_sound most (suc r) = member_sound most r (expr most r) (expr_sound most
 
 pub some_exprs_sound : (most r : ℕ) → IsSound (λ xs. exprs_spelling (exprs_of xs)) (λ xs. AreExprs (exprs_of xs)) (λ xs. exprs_height (exprs_of xs)) r (some_exprs most r)
 unfolding some_exprs
-some_exprs_sound most r = record { at = λ i xs j h. let d = (exprs_sound most r (expr most r) (expr_sound most r)).at i xs j h in record {
-  takes = subst (λ es. FitEach i es j) (sym (exprs_spelling_is xs.0)) d.takes;
-  is = are_exprs xs.0 d.is;
-  tall = d.tall ∙ sym (exprs_height_is xs.0);
-  low = d.low;
-} }
+some_exprs_sound most r = record {
+  at = λ i xs j h. let d = (exprs_sound most r (expr most r) (expr_sound most r)).at i xs j h in record {
+    takes = subst (λ es. FitEach i es j) (sym (exprs_spelling_is xs.0)) d.takes;
+    is = are_exprs xs.0 d.is;
+    tall = d.tall ∙ sym (exprs_height_is xs.0);
+    low = d.low;
+  };
+}
 
 pub a_range_sound : (most r : ℕ) → IsSound range_spelling IsRange range_height r (a_range most r)
 unfolding a_range

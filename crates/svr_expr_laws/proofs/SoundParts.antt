@@ -1,5 +1,5 @@
 -- What is read of the parts of an expression is what the grammar has there.
-use Rattle.std.proofs.Common.{◌≡◌, ℕ, zero, suc, ◌+◌, ◌<◌, ◌≤◌, max, Bool, true, false, List, [], ◌∷◌, ◌++◌, length, Option, Some, None, Ok, refl, sym, ◌∙◌, ap, subst, arith}
+use Rattle.std.proofs.Common.{◌≡◌, ℕ, zero, suc, ◌+◌, ◌≤◌, Bool, true, List, [], ◌∷◌, ◌++◌, Option, Some, None, Ok, refl, sym, ◌∙◌, ap, subst, arith}
 use Rattle.svr_token.specs.declared.Lexeme.{Lexeme}
 use Rattle.svr_token.specs.declared.Lexeme.TheVariants as lexeme
 use Rattle.svr_token.specs.declared.Word.TheVariants as w
@@ -8,23 +8,23 @@ use Rattle.svr_token.specs.declared.Mark.TheVariants as m
 use Rattle.svr_token.specs.declared.SystemName.{SystemName}
 use Rattle.svr_token.specs.declared.SystemName.TheVariants as system
 use Rattle.svr_typed.specs.declared.UnOp.{UnOp}
-use Rattle.svr_tree.specs.Tokens.{Tok, Entry, On, Any, FitEach, mark, mark_on, listed, Each, OneOrMore}
+use Rattle.svr_tree.specs.Tokens.{Tok, FitEach, mark, listed, Each, OneOrMore}
 use Rattle.svr_tree.specs.DeclGrammar.{greatest}
 use Rattle.svr_tree.specs.Operators.{unary_mark}
-use Rattle.svr_tree.specs.ExprTree.{ExprTree, number, path, bit_select, part_select, unary, join, copies, sign, paren, RangeTree, one, span, BoundTree, value, dollar, exprs_of}
+use Rattle.svr_tree.specs.ExprTree.{ExprTree, RangeTree, BoundTree, exprs_of}
 use Rattle.svr_tree.specs.ExprGrammar.{system_name, expr_spelling, exprs_spelling, range_spelling, bound_spelling, level, start, is_selectable, IsExpr, IsRange, IsBound, expr_height, exprs_height, range_height, bound_height}
 use Rattle.svr_reader.specs.declared.fixed.Fixed.TheVariants as f
-use Rattle.svr_reader.specs.Program.{Turn, go, done, Program, pure, bind, call, Parser, and_then, lexeme_at, number_at, entered, turns, run}
+use Rattle.svr_reader.specs.Program.{Turn, go, done, call, Parser, lexeme_at, number_at, entered, turns, run}
 use Rattle.svr_reader.specs.Steps.{expect}
-use Rattle.svr_reader.specs.Lists.{Tall, led, listing_on}
-use Rattle.svr_reader.proofs.Steps.{bind_ok, yields, turn_ok, takes_append, Enters, entered_ok, expect_ok, led_ok}
+use Rattle.svr_reader.specs.Lists.{Tall, listing_on}
+use Rattle.svr_reader.proofs.Steps.{bind_ok, yields, turn_ok, takes_append, entered_ok, expect_ok, led_ok}
 use Rattle.svr_reader.proofs.Layers.{ReadAs, IsSound, sound_of}
 use Rattle.svr_reader.proofs.Lists.{Behind, listing_sound, listing_on_sound}
 use Rattle.svr_expr.specs.Links.{unary_of}
-use Rattle.svr_expr.specs.ExprRules.{Reader, known_path, path_in, indexed, member_step, member_in, with_parens, parens_on, select_on, suffix_by, suffix_step, with_suffixes, selected, exprs, bound_by, bound, spanned, range_by, range, ranges, literal, enclosed, is_signed, signing, copied, joined, braced, negated, negated_by, prefix_by, prefix}
+use Rattle.svr_expr.specs.ExprRules.{Reader, known_path, path_in, parens_on, select_on, suffix_by, suffix_step, with_suffixes, selected, exprs, bound_by, bound, spanned, range_by, range, ranges, literal, enclosed, is_signed, signing, copied, joined, braced, negated, negated_by, prefix_by, prefix}
 use Rattle.svr_expr_laws.proofs.Links.{unary_back}
-use Rattle.svr_expr_laws.proofs.Trees.{parens, with_parens_spelling, with_parens_is, with_parens_height, with_parens_level, selectable_level, exprs_spelling_is, exprs_height_is, are_exprs, begins}
-use Rattle.svr_expr_laws.proofs.Names.{KnownPath, known_spells, known_path_sound}
+use Rattle.svr_expr_laws.proofs.Trees.{parens, with_parens_spelling, with_parens_is, with_parens_height, with_parens_level, selectable_level, exprs_spelling_is, exprs_height_is, are_exprs}
+use Rattle.svr_expr_laws.proofs.Names.{known_spells, known_path_sound}
 
 -- an expression of at least this level
 abbrev pub IsAt : ℕ → ExprTree → Type 0
@@ -87,9 +87,12 @@ module _ (most r : ℕ) (sub : ℕ → Parser (Tall ExprTree)) (ok : (least : �
       let colon : FitEach j (mark m.Colon ∷ []) j2 = expect_ok most r sub (f.Mark m.Colon) j (u, j2) e2 in
       let close : FitEach j3 (mark m.CloseBracket ∷ []) j4 = expect_ok most r sub (f.Mark m.CloseBracket) j3 (u2, j4) e4 in
       yields (ReadAs range_spelling IsRange range_height r (t ∷ i)) _ _ y g4 (record {
-        takes = (k, takes_append i (bound_spelling lo.0) (mark m.Colon ∷ (bound_spelling hi.0 ++ mark m.CloseBracket ∷ [])) j j4 a.takes
-            (takes_append j (mark m.Colon ∷ []) (bound_spelling hi.0 ++ mark m.CloseBracket ∷ []) j2 j4 colon
-            (takes_append j2 (bound_spelling hi.0) (mark m.CloseBracket ∷ []) j3 j4 z.takes close)));
+        takes = (
+          k,
+          takes_append i (bound_spelling lo.0) (mark m.Colon ∷ (bound_spelling hi.0 ++ mark m.CloseBracket ∷ [])) j j4 a.takes
+              (takes_append j (mark m.Colon ∷ []) (bound_spelling hi.0 ++ mark m.CloseBracket ∷ []) j2 j4 colon
+              (takes_append j2 (bound_spelling hi.0) (mark m.CloseBracket ∷ []) j3 j4 z.takes close)),
+        );
         is = (a.is, z.is);
         tall = omega (arith, a.tall, z.tall);
         low = omega (arith, a.low, z.low);
@@ -138,10 +141,12 @@ module _ (most r : ℕ) (sub : ℕ → Parser (Tall ExprTree)) (ok : (least : �
       (λ j3 colon g3. bind_ok (sub 1 j3) _ y g3 (λ z j4 e4 g4. bind_ok (R (expect (f.Mark m.CloseBracket)) j4) _ y g4 (λ u j5 e5 g5.
       let s2 = one_sound.at j3 z j4 e4 in
       yields (IsBase r at i0) _ _ y g5 (record {
-        takes = takes_append i0 (expr_spelling base.0) (mark m.OpenBracket ∷ (expr_spelling x.0 ++ mark m.Colon ∷ (expr_spelling z.0 ++ mark m.CloseBracket ∷ []))) (n.t ∷ j) j5 before
-            (is, takes_append j (expr_spelling x.0) (mark m.Colon ∷ (expr_spelling z.0 ++ mark m.CloseBracket ∷ [])) j2 j5 s.takes
-            (takes_append j2 (mark m.Colon ∷ []) (expr_spelling z.0 ++ mark m.CloseBracket ∷ []) j3 j5 colon
-            (takes_append j3 (expr_spelling z.0) (mark m.CloseBracket ∷ []) j4 j5 s2.takes (expect_ok most r sub (f.Mark m.CloseBracket) j4 (u, j5) e5))));
+        takes = takes_append i0 (expr_spelling base.0) (mark m.OpenBracket ∷ (expr_spelling x.0 ++ mark m.Colon ∷ (expr_spelling z.0 ++ mark m.CloseBracket ∷ []))) (n.t ∷ j) j5 before (
+          is,
+          takes_append j (expr_spelling x.0) (mark m.Colon ∷ (expr_spelling z.0 ++ mark m.CloseBracket ∷ [])) j2 j5 s.takes
+              (takes_append j2 (mark m.Colon ∷ []) (expr_spelling z.0 ++ mark m.CloseBracket ∷ []) j3 j5 colon
+              (takes_append j3 (expr_spelling z.0) (mark m.CloseBracket ∷ []) j4 j5 s2.takes (expect_ok most r sub (f.Mark m.CloseBracket) j4 (u, j5) e5))),
+        );
         is = (b.begins, b.is, s.is, s2.is, b.selects);
         selects = refl;
         tall = omega (arith, b.tall, s.tall, s2.tall);
@@ -255,8 +260,11 @@ module _ (most r : ℕ) (sub : ℕ → Parser (Tall ExprTree)) (ok : (least : �
       let first : Some n.t.lexeme ≡ Some (lexeme.System s) = first_of n.t j0 i _ n.is k in
       let is : n.t.lexeme ≡ lexeme.System s = cc in
       yields (ReadPrimary r i) _ _ y g2 (rw n.is (record {
-        takes = ((sym n.number, is ∙ ap lexeme.System (sym (signed_is s))), takes_append j0 (mark m.OpenParen ∷ []) (expr_spelling x.0 ++ mark m.CloseParen ∷ []) j1 j2 (expect_ok most r sub (f.Mark m.OpenParen) j0 (u, j1) e1)
-            (takes_append j1 (expr_spelling x.0) (mark m.CloseParen ∷ []) j j2 d.takes (expect_ok most r sub (f.Mark m.CloseParen) j (u2, j2) e2)));
+        takes = (
+          (sym n.number, is ∙ ap lexeme.System (sym (signed_is s))),
+          takes_append j0 (mark m.OpenParen ∷ []) (expr_spelling x.0 ++ mark m.CloseParen ∷ []) j1 j2 (expect_ok most r sub (f.Mark m.OpenParen) j0 (u, j1) e1)
+              (takes_append j1 (expr_spelling x.0) (mark m.CloseParen ∷ []) j j2 d.takes (expect_ok most r sub (f.Mark m.CloseParen) j (u2, j2) e2)),
+        );
         is = (d.is, refl);
         tall = ap (λ v. v + 1) d.tall;
         low = omega (arith, d.low);
@@ -271,10 +279,13 @@ module _ (most r : ℕ) (sub : ℕ → Parser (Tall ExprTree)) (ok : (least : �
       let takes : FitEach j2 (exprs_spelling (exprs_of xs.0)) j3 = subst (λ es. FitEach j2 es j3) (sym (exprs_spelling_is xs.0)) d.takes in
       let high : exprs_height (exprs_of xs.0) ≡ greatest expr_height xs.0 = exprs_height_is xs.0 in
       yields (ReadPrimary r (t ∷ i)) _ _ y g3 (record {
-        takes = ((sym num, k), takes_append i (expr_spelling x.0) (mark m.OpenBrace ∷ (exprs_spelling (exprs_of xs.0) ++ mark m.CloseBrace ∷ (mark m.CloseBrace ∷ []))) j j5 s.takes
-            (takes_append j (mark m.OpenBrace ∷ []) (exprs_spelling (exprs_of xs.0) ++ mark m.CloseBrace ∷ (mark m.CloseBrace ∷ [])) j2 j5 brace
-            (takes_append j2 (exprs_spelling (exprs_of xs.0)) (mark m.CloseBrace ∷ (mark m.CloseBrace ∷ [])) j3 j5 takes
-            (takes_append j3 (mark m.CloseBrace ∷ []) (mark m.CloseBrace ∷ []) j4 j5 (expect_ok most r sub (f.Mark m.CloseBrace) j3 (u, j4) e2) (expect_ok most r sub (f.Mark m.CloseBrace) j4 (u2, j5) e3)))));
+        takes = (
+          (sym num, k),
+          takes_append i (expr_spelling x.0) (mark m.OpenBrace ∷ (exprs_spelling (exprs_of xs.0) ++ mark m.CloseBrace ∷ (mark m.CloseBrace ∷ []))) j j5 s.takes
+              (takes_append j (mark m.OpenBrace ∷ []) (exprs_spelling (exprs_of xs.0) ++ mark m.CloseBrace ∷ (mark m.CloseBrace ∷ [])) j2 j5 brace
+              (takes_append j2 (exprs_spelling (exprs_of xs.0)) (mark m.CloseBrace ∷ (mark m.CloseBrace ∷ [])) j3 j5 takes
+              (takes_append j3 (mark m.CloseBrace ∷ []) (mark m.CloseBrace ∷ []) j4 j5 (expect_ok most r sub (f.Mark m.CloseBrace) j3 (u, j4) e2) (expect_ok most r sub (f.Mark m.CloseBrace) j4 (u2, j5) e3)))),
+        );
         is = ((s.is, are_exprs xs.0 d.is), refl);
         tall = omega (arith, s.tall, d.tall, high);
         low = omega (arith, s.low, d.low);
@@ -320,11 +331,11 @@ module _ (most r : ℕ) (sub : ℕ → Parser (Tall ExprTree)) (ok : (least : �
       let first : Some n.t.lexeme ≡ Some (lexeme.Mark m.OpenBrace) = first_of n.t j0 i _ n.is k in
       let is : n.t.lexeme ≡ lexeme.Mark m.OpenBrace = cc in
       let all : ReadPrimary r (n.t ∷ j0) y.0 y.1 = led_ok most r sub (f.Mark m.OpenBrace) _ _ j y g
-          (λ j2 brace g2. copied_sound n.t j0 x j at y is n.number s j2 brace g2)
-          (λ _ g2. led_ok most r sub (f.Mark m.Comma) _ _ j y g2
-          (λ j2 eaten g3. bind_ok (R (listing_on (call 1) (x.0 ∷ [], x.1)) j2) _ y g3 (λ xs j3 e3 g4.
-          joined_sound n.t j0 xs j3 at y is n.number (several j0 x j j2 j3 xs s eaten (listing_on_sound most r sub (call 1) expr_spelling IsExpr expr_height r one_sound (x.0 ∷ [], x.1) j2 xs j3 e3)) g4))
-          (λ _ g3. joined_sound n.t j0 (x.0 ∷ [], x.1) j at y is n.number (single j0 x j s) g3)) in
+      (λ j2 brace g2. copied_sound n.t j0 x j at y is n.number s j2 brace g2)
+      (λ _ g2. led_ok most r sub (f.Mark m.Comma) _ _ j y g2
+      (λ j2 eaten g3. bind_ok (R (listing_on (call 1) (x.0 ∷ [], x.1)) j2) _ y g3 (λ xs j3 e3 g4.
+      joined_sound n.t j0 xs j3 at y is n.number (several j0 x j j2 j3 xs s eaten (listing_on_sound most r sub (call 1) expr_spelling IsExpr expr_height r one_sound (x.0 ∷ [], x.1) j2 xs j3 e3)) g4))
+      (λ _ g3. joined_sound n.t j0 (x.0 ∷ [], x.1) j at y is n.number (single j0 x j s) g3)) in
       subst (λ z. ReadPrimary r z y.0 y.1) (sym n.is) all))
 
   negated_by_sound : (k : Mark) (op : Option UnOp) (i : List Tok) (y : Tall ExprTree × List Tok) → lexeme_at i ≡ Some (lexeme.Mark k) → unary_of k ≡ op → R (negated_by op) i ≡ Ok y → ReadPrimary r i y.0 y.1

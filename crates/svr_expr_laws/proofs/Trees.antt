@@ -1,21 +1,20 @@
 -- Trees of expressions: their heights, levels, lists and first tokens.
-use Rattle.std.proofs.Common.{◌≡◌, ℕ, ◌+◌, ◌<◌, ◌≤◌, max, Bool, true, false, List, [], ◌∷◌, ◌++◌, length, Option, Some, None, refl, sym, ◌∙◌, ap, subst, arith, append_assoc, length-append}
+use Rattle.std.proofs.Common.{◌≡◌, ℕ, ◌≤◌, max, Bool, true, false, List, [], ◌∷◌, ◌++◌, length, Some, refl, sym, ◌∙◌, ap, arith, append_assoc, length-append}
 use Rattle.std.proofs.lemmas.List.{append-nil}
 use Rattle.svr_token.specs.declared.Lexeme.{Lexeme}
 use Rattle.svr_token.specs.declared.Lexeme.TheVariants as lexeme
 use Rattle.svr_token.specs.declared.Word.TheVariants as w
-use Rattle.svr_token.specs.declared.Mark.{Mark}
 use Rattle.svr_token.specs.declared.Mark.TheVariants as m
 use Rattle.svr_tree.specs.declared.expr.Scope.{Scope}
 use Rattle.svr_tree.specs.declared.expr.Scope.TheVariants as scope
-use Rattle.svr_tree.specs.Tokens.{Tok, Entry, On, Any, Name, IsName, FitEach, mark, word, listed, followed, Each, OneOrMore}
+use Rattle.svr_tree.specs.Tokens.{Tok, Entry, On, Name, FitEach, mark, word, listed, followed, Each, OneOrMore}
 use Rattle.svr_tree.specs.DeclGrammar.{greatest}
-use Rattle.svr_tree.specs.Operators.{unary_mark, binary_mark, precedence}
-use Rattle.svr_tree.specs.ExprTree.{ExprTree, number, path, bit_select, part_select, unary, binary, choice, inside, join, copies, sign, paren, ExprTrees, no_exprs, more_exprs, RangeTree, one, span, RangeTrees, no_ranges, more_ranges, BoundTree, value, dollar, exprs_of, ranges_of}
-use Rattle.svr_tree.specs.ExprGrammar.{dotted, names_spelling, scope_spelling, parens_spelling, system_name, expr_spelling, exprs_spelling, exprs_followed, range_spelling, ranges_spelling, ranges_followed, bound_spelling, level, start, IsPathAt, is_selectable, IsExpr, AreExprs, EachIsExpr, IsRange, AreRanges, EachIsRange, IsBound, expr_height, exprs_height, range_height, ranges_height, bound_height}
+use Rattle.svr_tree.specs.Operators.{unary_mark, binary_mark}
+use Rattle.svr_tree.specs.ExprTree.{ExprTree, number, path, bit_select, part_select, unary, binary, choice, inside, join, copies, sign, paren, ExprTrees, no_exprs, more_exprs, RangeTree, one, span, RangeTrees, no_ranges, more_ranges, exprs_of, ranges_of}
+use Rattle.svr_tree.specs.ExprGrammar.{dotted, names_spelling, scope_spelling, parens_spelling, system_name, expr_spelling, exprs_spelling, exprs_followed, range_spelling, ranges_spelling, ranges_followed, level, start, IsPathAt, is_selectable, IsExpr, AreExprs, EachIsExpr, IsRange, AreRanges, EachIsRange, expr_height, exprs_height, range_height, ranges_height}
 use Rattle.svr_reader.specs.Program.{lexeme_at, number_at}
 use Rattle.svr_reader.proofs.Steps.{takes_parts}
-use Rattle.svr_expr.specs.ExprRules.{with_parens, starts, starts_path}
+use Rattle.svr_expr.specs.ExprRules.{with_parens, starts}
 use Rattle.svr_expr_laws.proofs.Links.{precedence_pos, precedence_low, operator_starts}
 
 -- ---- heights and levels
