@@ -15,3 +15,6 @@ pub mod Fronts
 pub mod Places
 pub mod Tokens
 pub mod Spelled
+pub mod Calls
+pub mod Listed
+pub mod LivePeeks

@@ -154,7 +154,7 @@ module _ {K : Type 0} {Ans : K → Type 0} (most r : ℕ) (sub : (k : K) → Par
         (λ _ e. bind_ok (R p i) _ (v, j) e (λ x mid e2 k2. let both : ◌≡◌ {A = Turn Lists Lists × List Tok} (go (with_last s x), mid) (v, j) = cc in
         g x (subst (λ z. ReadAs spell Is high b i x z) (ap (λ z. z.1) both) (ok.at i x mid e2)) (sym (ap (λ z. z.0) both))))
 
-    until_turns_sound : (b : ℕ) → IsSound spell Is high b (R p) → (n : ℕ) (s : Lists) (i : List Tok) (y : Lists × List Tok) → turns n (λ s2. R (until_step k p s2)) s i ≡ Ok y → Behind ended (Each Is) high b s i y.0 y.1
+    pub until_turns_sound : (b : ℕ) → IsSound spell Is high b (R p) → (n : ℕ) (s : Lists) (i : List Tok) (y : Lists × List Tok) → turns n (λ s2. R (until_step k p s2)) s i ≡ Ok y → Behind ended (Each Is) high b s i y.0 y.1
     until_turns_sound b ok zero s i y h = absurd (cc)
     until_turns_sound b ok (suc n) s i y h = turn_ok (R (until_step k p s) i) (turns n (λ s2. R (until_step k p s2))) y h
         (λ s2 j e g. until_step_ok b ok s i (go s2) j e
@@ -191,7 +191,7 @@ module _ {K : Type 0} {Ans : K → Type 0} (most r : ℕ) (sub : (k : K) → Par
       follows [] i rest o h = subst D (sym (lexeme_of i rest (fixed_lexeme k) [] h)) dk
       follows (x ∷ xs) i rest o h = let q = takes_parts i (spell x) (ended xs) rest (subst (λ es. FitEach i es rest) (append_assoc (spell x) (tokens.run spell xs) (Any (fixed_lexeme k) ∷ [])) h) in (begins x i q.0 o.0 q.1).0
 
-      until_turns_complete : (n : ℕ) (s : Lists) (xs : List X) (i rest : List Tok) → length i ≤ n + length rest → length i ≤ most + length rest → Each Is xs → greatest high xs ≤ b
+      pub until_turns_complete : (n : ℕ) (s : Lists) (xs : List X) (i rest : List Tok) → length i ≤ n + length rest → length i ≤ most + length rest → Each Is xs → greatest high xs ≤ b
           → FitEach i (ended xs) rest → turns n (λ s2. R (until_step k p s2)) s i ≡ Ok ((s.0 ++ xs, max s.1 (greatest high xs)), rest)
       unfolding until_step
       until_turns_complete zero s [] i rest full few o low h = absurd (omega (arith, full, takes_length i (Any (fixed_lexeme k) ∷ []) rest h))

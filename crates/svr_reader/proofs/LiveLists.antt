@@ -7,7 +7,7 @@ use Rattle.svr_reader.specs.declared.fixed.Fixed.{Fixed}
 use Rattle.svr_reader.specs.declared.fixed.Fixed.TheVariants as f
 use Rattle.svr_reader.specs.declared.fault.ReadFault.{ReadFault}
 use Rattle.svr_reader.specs.declared.fault.ReadFault.TheVariants.{NoMemory}
-use Rattle.svr_reader.specs.Program.{Turn, go, done, Program, pure, bind, take, Parser, lexeme_at, turned, turns, run}
+use Rattle.svr_reader.specs.Program.{Turn, go, done, Program, pure, bind, take, loop, Parser, lexeme_at, turned, turns, run}
 use Rattle.svr_reader.specs.Steps.{fixed_lexeme, is_fixed, sees, eat}
 use Rattle.svr_reader.specs.Lists.{Tall, with_last, list_step, listing_on, listing, until_step, until}
 use Rattle.svr_reader.proofs.Steps.{bind_ok, bind_is, turn_ok, when, Saw, fixed_none, choose_ok, eat_ok, eats, eat_not, led_yes}
@@ -192,8 +192,12 @@ module _ {K : Type 0} {Ans : K → Type 0} (most r : ℕ) (sub : (k : K) → Par
     unfolding until_step
     step_ends s z = led_yes most r sub k (pure (done s)) (one_more s) (tok (fixed_lexeme k)) z refl
 
+    -- behind elements that were read
+    pub until_on_goal : (s : Tall (List X)) → Low b s → G D D (Low b) (loop (until_step k p) s)
+    until_on_goal s low = loop_goal most r sub ls some
+        (turns_of most r sub ls D (Low b) (Low b) (until_step k p) step_form (λ s inv. record { more = tok (fixed_lexeme k) ∷ []; x = done s; good = inv; opens = λ z cl. dk; ends = λ z cl. step_ends s z }))
+        low
+
     pub until_goal : G D D (Low b) (until k p)
     unfolding until
-    until_goal = loop_goal most r sub ls some
-        (turns_of most r sub ls D (Low b) (Low b) (until_step k p) step_form (λ s inv. record { more = tok (fixed_lexeme k) ∷ []; x = done s; good = inv; opens = λ z cl. dk; ends = λ z cl. step_ends s z }))
-        (omega arith)
+    until_goal = until_on_goal ([], 0) (omega arith)

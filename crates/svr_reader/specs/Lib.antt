@@ -4,4 +4,5 @@ pub mod Numbered
 pub mod Answers
 pub mod Spelled
 pub mod Lists
+pub mod Calls
 pub mod Fronts

@@ -22,3 +22,14 @@ impl From<AllocError> for ReadFault {
         ReadFault::NoMemory
     }
 }
+
+impl From<svr_tree::NoMemory> for ReadFault {
+    ghost use Rattle.std.specs.Prelude.{◌≡◌};
+    ghost use Rattle.svr_reader.specs.declared.fault.ReadFault.TheVariants.{NoMemory};
+
+    ghost from_gives = { λ _ e. e ≡ NoMemory };
+
+    fn from(_error: svr_tree::NoMemory) -> ReadFault {
+        ReadFault::NoMemory
+    }
+}

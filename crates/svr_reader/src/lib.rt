@@ -13,6 +13,7 @@
 mod cursor;
 mod fault;
 mod fixed;
+mod list;
 mod spelling;
 #[cfg(test)]
 mod tests;
@@ -20,4 +21,5 @@ mod tests;
 pub use cursor::Cursor;
 pub use fault::ReadFault;
 pub use fixed::{Fixed, is_fixed};
+pub use list::{TURNS, listing, listing_on, until, until_on};
 pub use spelling::lexemes;

@@ -1,0 +1,8 @@
+use Rattle.std.proofs.Common.{List, ◌-◌}
+use Rattle.svr_tree.specs.Tokens.{Tok}
+use Rattle.svr_reader.specs.Calls.{cap, Lists}
+use Rattle.svr_reader.proofs.list.listing_on.Given as goal
+
+abbrev pub invariant-loop-turn : goal.invariant-loop-turn
+invariant-loop-turn g l = (r : _) (j : List Tok) → Lists (goal.F-post g l.one) (cap - l._turn) (l.found, l.tall) l.cursor r j
+    → Lists (goal.F-post g l.one) cap (l.fn.first, l.fn.first_tall) l.fn.cursor r j
