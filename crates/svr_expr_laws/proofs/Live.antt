@@ -23,7 +23,7 @@ use Rattle.svr_reader.proofs.Live.{AnyToken}
 use Rattle.svr_reader.proofs.LiveLoops.{Then}
 use Rattle.svr_reader.proofs.Goals.{Goal, Form, then_goal, then_form, goal_of, pure_goal, take_form, enter_form, peek_form, here_form, refuse_form, narrow_form, wide_goal}
 use Rattle.svr_reader.proofs.Led.{AnyAnswer, tok, expect_form, goal_expect, led_form}
-use Rattle.svr_reader.proofs.LiveTurns.{Stops, peek_loop_goal}
+use Rattle.svr_reader.proofs.LivePeeks.{Peeks, reads, stops, peek_loop_goal}
 use Rattle.svr_reader.proofs.Rooms.{none_never, none_later}
 use Rattle.svr_reader.proofs.Layers.{IsViable, IsOpen, Low, Part}
 use Rattle.svr_expr.specs.declared.link.Link.{Link}
@@ -88,22 +88,19 @@ module _ (most r : ℕ) (sub : ℕ → Parser (Tall ExprTree)) (ls : (least : �
   abbrev SuffixEnds : ℕ → Turn (Tall ExprTree) (Tall ExprTree) → Type 0
   SuffixEnds at = Then most Closes Closes (Part (suc r)) (λ s. R (bind peek (suffix_by at s))) (Part (suc r))
 
-  abbrev SuffixBranch : ℕ → Tall ExprTree → Option Lexeme → Type 0
-  SuffixBranch at s q = F Closes (SuffixEnds at) (suffix_by at s q) ⊎ Stops most r sub ls some Closes (Part (suc r)) (Part (suc r)) (λ x. x) (suffix_by at) s q
+  suffix_branch : (at : ℕ) (s : Tall ExprTree) → Part (suc r) s → (q : Option Lexeme) → Peeks most r sub ls Closes (SuffixEnds at) (done s) (suffix_by at s q)
+  suffix_branch at s inv (Some (lexeme.Mark m.OpenBracket)) = reads (then_form most r sub ls (select_form at s inv) (λ longer g. pure_goal most r sub ls {Q = SuffixEnds at} {x = go longer} (g, λ _ h. h) (λ _ _. tt)))
+  suffix_branch at s inv (Some (lexeme.Mark m.OpenParen)) = reads (then_form most r sub ls (parens_form s inv) (λ longer g. pure_goal most r sub ls {Q = SuffixEnds at} {x = done longer} g (λ _ _. tt)))
+  suffix_branch at s inv _ = stops (λ i. refl)
 
-  suffix_branch : (at : ℕ) (s : Tall ExprTree) → Part (suc r) s → (q : Option Lexeme) → SuffixBranch at s q
-  suffix_branch at s inv (Some (lexeme.Mark m.OpenBracket)) = inl (then_form most r sub ls (select_form at s inv) (λ longer g. pure_goal most r sub ls {Q = SuffixEnds at} {x = go longer} (g, λ _ h. h) (λ _ _. tt)))
-  suffix_branch at s inv (Some (lexeme.Mark m.OpenParen)) = inl (then_form most r sub ls (parens_form s inv) (λ longer g. pure_goal most r sub ls {Q = SuffixEnds at} {x = done longer} g (λ _ _. tt)))
-  suffix_branch at s inv _ = inr (record { at = λ i. refl })
-
-  suffix_stops : (at : ℕ) (s : Tall ExprTree) (q : Option Lexeme) → Closes q → Stops most r sub ls some Closes (Part (suc r)) (Part (suc r)) (λ x. x) (suffix_by at) s q
-  suffix_stops at s (Some (lexeme.Mark m.OpenBracket)) h = absurd (omega (arith, h))
-  suffix_stops at s (Some (lexeme.Mark m.OpenParen)) h = absurd (omega (arith, h))
-  suffix_stops at s _ h = record { at = λ i. refl }
+  suffix_stops : (at : ℕ) (s : Tall ExprTree) (q : Option Lexeme) (i : List Tok) → Closes q → R (suffix_by at s q) i ≡ Ok (done s, i)
+  suffix_stops at s (Some (lexeme.Mark m.OpenBracket)) i h = absurd (omega (arith, h))
+  suffix_stops at s (Some (lexeme.Mark m.OpenParen)) i h = absurd (omega (arith, h))
+  suffix_stops at s _ i h = refl
 
   with_suffixes_goal : (at : ℕ) (base : Tall ExprTree) → Part (suc r) base → G Closes Closes (Part (suc r)) (with_suffixes at base)
   unfolding with_suffixes suffix_step
-  with_suffixes_goal at base a = peek_loop_goal most r sub ls some Closes (Part (suc r)) (Part (suc r)) (λ x. x) (suffix_by at) (suffix_branch at) (λ s inv q cl. suffix_stops at s q cl) (λ s inv. inv) base a
+  with_suffixes_goal at base a = peek_loop_goal most r sub ls Closes (Part (suc r)) (Part (suc r)) (suffix_by at) (λ x. x) (λ s inv. inv) (suffix_branch at) (suffix_stops at) some base a
 
   selected_form : F Closes (Part (suc r)) selected
   unfolding selected
@@ -229,9 +226,6 @@ module _ (most r : ℕ) (sub : ℕ → Parser (Tall ExprTree)) (ls : (least : �
     abbrev ClimbEnds : Turn State (Tall ExprTree) → Type 0
     ClimbEnds = Then most Closes Closes (Part (suc r)) (λ s. R (bind peek (climb_turn s))) Inv
 
-    abbrev ClimbBranch : State → Option Link → Type 0
-    ClimbBranch s o = F Closes ClimbEnds (climb_by at least s o) ⊎ ((i : List Tok) → R (climb_by at least s o) i ≡ Ok (done s.0, i))
-
     abbrev onward : State → Link → Reader (Turn State (Tall ExprTree))
     onward s k = bind (extend at s.0 k) (λ longer. pure (go (longer, least_right (link_level k))))
 
@@ -240,17 +234,13 @@ module _ (most r : ℕ) (sub : ℕ → Parser (Tall ExprTree)) (ls : (least : �
         let ends : ClimbEnds (go (longer, least_right (link_level k))) = (g, λ _ h. h) in
         pure_goal most r sub ls {Q = ClimbEnds} {x = go (longer, least_right (link_level k))} ends (λ _ h. h))
 
-    link_branch : (s : State) → Inv s → (k : Link) (t : Bool) → F Closes ClimbEnds (choose t (onward s k) (pure (done s.0))) ⊎ ((i : List Tok) → R (choose t (onward s k) (pure (done s.0))) i ≡ Ok (done s.0, i))
-    link_branch s inv k true = inl (onward_form s k inv)
-    link_branch s inv k false = inr (λ i. refl)
+    link_branch : (s : State) → Inv s → (k : Link) (t : Bool) → Peeks most r sub ls Closes ClimbEnds (done s.0) (choose t (onward s k) (pure (done s.0)))
+    link_branch s inv k true = reads (onward_form s k inv)
+    link_branch s inv k false = stops (λ i. refl)
 
-    climb_branch : (s : State) → Inv s → (o : Option Link) → ClimbBranch s o
-    climb_branch s inv None = inr (λ i. refl)
+    climb_branch : (s : State) → Inv s → (o : Option Link) → Peeks most r sub ls Closes ClimbEnds (done s.0) (climb_by at least s o)
+    climb_branch s inv None = stops (λ i. refl)
     climb_branch s inv (Some k) = link_branch s inv k (goes_on least s.1 (link_level k))
-
-    climb_any : (s : State) → Inv s → (q : Option Lexeme) → F Closes ClimbEnds (climb_turn s q) ⊎ Stops most r sub ls some Closes (Part (suc r)) Inv (λ x. x.0) climb_turn s q
-    climb_any s inv q = elim (climb_branch s inv (link_of q)) as (λ _. F Closes ClimbEnds (climb_turn s q) ⊎ Stops most r sub ls some Closes (Part (suc r)) Inv (λ x. x.0) climb_turn s q)
-        [ inl v ↦ inl v | inr v ↦ inr (record { at = v }) ]
 
     climb_stops : (s : State) (q : Option Lexeme) → Closes q → (o : Option Link) → link_of q ≡ o → (i : List Tok) → R (climb_by at least s o) i ≡ Ok (done s.0, i)
     climb_stops s q cl None e i = refl
@@ -258,8 +248,8 @@ module _ (most r : ℕ) (sub : ℕ → Parser (Tall ExprTree)) (ls : (least : �
 
     climb_goal : (first : Tall ExprTree) → Part (suc r) first → G Closes Closes (Part (suc r)) (climb at least first)
     unfolding climb climb_step
-    climb_goal first a = peek_loop_goal most r sub ls some Closes (Part (suc r)) Inv (λ x. x.0) climb_turn climb_any
-        (λ s inv q cl. record { at = climb_stops s q cl (link_of q) refl }) (λ s inv. inv) (first, 14) a
+    climb_goal first a = peek_loop_goal most r sub ls Closes (Part (suc r)) Inv climb_turn (λ s. s.0) (λ s inv. inv)
+        (λ s inv q. climb_branch s inv (link_of q)) (λ s q i cl. climb_stops s q cl (link_of q) refl i) some (first, 14) a
 
   pub expr_in_form : (least : ℕ) → F Closes (Part (suc r)) (expr_in least)
   unfolding expr_in

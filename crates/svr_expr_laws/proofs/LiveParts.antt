@@ -20,7 +20,8 @@ use Rattle.svr_reader.proofs.Live.{AnyToken, Finishes}
 use Rattle.svr_reader.proofs.LiveLoops.{Then}
 use Rattle.svr_reader.proofs.Goals.{Goal, Form, then_goal, then_form, goal_of, pure_goal, take_form, enter_form, peek_form, here_form, refuse_form, weaken_form, any_goal, wide_goal}
 use Rattle.svr_reader.proofs.Led.{AnyAnswer, goal_expect}
-use Rattle.svr_reader.proofs.LiveTurns.{Stops, led_loop_goal, peek_loop_goal}
+use Rattle.svr_reader.proofs.LiveTurns.{led_loop_goal}
+use Rattle.svr_reader.proofs.LivePeeks.{Peeks, reads, stops, peek_loop_goal}
 use Rattle.svr_reader.proofs.LiveLists.{listing_on_goal, listing_form, listing_goal}
 use Rattle.svr_reader.proofs.Layers.{IsViable, Low, Part}
 use Rattle.svr_expr.specs.Links.{binds}
@@ -217,19 +218,14 @@ module _ (most r : ℕ) (sub : ℕ → Parser (Tall ExprTree)) (ls : (least : �
   abbrev member_turn : ℕ → Tall ExprTree → Option Lexeme → Reader (Turn (Tall ExprTree) (Tall ExprTree))
   member_turn at s l = choose (is_fixed (f.Mark m.OpenBracket) l) (bind (indexed at s) (λ longer. pure (go longer))) (pure (done s))
 
-  member_branch : (at : ℕ) (s : Tall ExprTree) → Part (suc r) s → (t : Bool)
-      → F NotSelect (MemberEnds at) (choose t (bind (indexed at s) (λ longer. pure (go longer))) (pure (done s))) ⊎ ((i : List Tok) → R (choose t (bind (indexed at s) (λ longer. pure (go longer))) (pure (done s))) i ≡ Ok (done s, i))
-  member_branch at s inv true = inl (then_form most r sub ls (indexed_form at s inv) (λ longer g. pure_goal most r sub ls {Q = MemberEnds at} {x = go longer} (g, λ _ h. h) (λ _ _. tt)))
-  member_branch at s inv false = inr (λ i. refl)
-
-  member_any : (at : ℕ) (s : Tall ExprTree) → Part (suc r) s → (q : Option Lexeme) → F NotSelect (MemberEnds at) (member_turn at s q) ⊎ Stops most r sub ls some NotSelect (Part (suc r)) (Part (suc r)) (λ x. x) (member_turn at) s q
-  member_any at s inv q = elim (member_branch at s inv (is_fixed (f.Mark m.OpenBracket) q)) as (λ _. F NotSelect (MemberEnds at) (member_turn at s q) ⊎ Stops most r sub ls some NotSelect (Part (suc r)) (Part (suc r)) (λ x. x) (member_turn at) s q)
-      [ inl v ↦ inl v | inr v ↦ inr (record { at = v }) ]
+  member_branch : (at : ℕ) (s : Tall ExprTree) → Part (suc r) s → (t : Bool) → Peeks most r sub ls NotSelect (MemberEnds at) (done s) (choose t (bind (indexed at s) (λ longer. pure (go longer))) (pure (done s)))
+  member_branch at s inv true = reads (then_form most r sub ls (indexed_form at s inv) (λ longer g. pure_goal most r sub ls {Q = MemberEnds at} {x = go longer} (g, λ _ h. h) (λ _ _. tt)))
+  member_branch at s inv false = stops (λ i. refl)
 
   member_goal : (at : ℕ) (base : Tall ExprTree) → Part (suc r) base → G NotSelect NotSelect (Part (suc r)) (loop (member_step at) base)
   unfolding member_step
-  member_goal at base a = peek_loop_goal most r sub ls some NotSelect (Part (suc r)) (Part (suc r)) (λ x. x) (member_turn at) (member_any at)
-      (λ s inv q cl. record { at = λ i. choose_false most r sub _ _ _ i cl.1 }) (λ s inv. inv) base a
+  member_goal at base a = peek_loop_goal most r sub ls NotSelect (Part (suc r)) (Part (suc r)) (member_turn at) (λ x. x) (λ s inv. inv)
+      (λ s inv q. member_branch at s inv (is_fixed (f.Mark m.OpenBracket) q)) (λ s q i cl. choose_false most r sub _ _ _ i cl.1) some base a
 
   pub member_in_form : F NotSelect (Part (suc r)) member_in
   unfolding member_in

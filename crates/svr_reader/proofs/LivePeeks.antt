@@ -2,11 +2,11 @@
 use Rattle.std.proofs.Common.{◌≡◌, ℕ, ◌+◌, ◌<◌, ◌≤◌, List, [], ◌∷◌, ◌++◌, length, Option, Ok, Err, ◌⊎◌, inl, inr, refl, sym, ◌∙◌, ap, subst, arith}
 use Rattle.svr_token.specs.declared.Lexeme.{Lexeme}
 use Rattle.svr_tree.specs.Tokens.{Tok}
-use Rattle.svr_reader.specs.Program.{Turn, go, done, Program, bind, peek, Outcome, Parser, lexeme_at, run}
+use Rattle.svr_reader.specs.Program.{Turn, go, done, Program, bind, peek, loop, Outcome, Parser, lexeme_at, run}
 use Rattle.svr_reader.proofs.Local.{IsLocal, local_run}
 use Rattle.svr_reader.proofs.Live.{AnyToken, Later, Settled, same_front, later_peek}
 use Rattle.svr_reader.proofs.LiveLoops.{Then, Done, Goes, Turns}
-use Rattle.svr_reader.proofs.Goals.{Goal, Form}
+use Rattle.svr_reader.proofs.Goals.{Goal, Form, loop_goal}
 
 module _ {K : Type 0} {Ans : K → Type 0} (most r : ℕ) (sub : (k : K) → Parser (Ans k)) (ls : (k : K) → IsLocal (sub k)) where
   abbrev R : {A : Type 0} → Program K Ans A → Parser A
@@ -98,3 +98,6 @@ module _ {K : Type 0} {Ans : K → Type 0} (most r : ℕ) (sub : (k : K) → Par
         ends = λ s i a j inv lim h. done_good s i a j (settled_by C Turned (done (stop s)) (good s inv) (by s) (v s inv) (ends s) i (done a) j lim (v s inv (lexeme_at i)) h);
         within = λ q h. h;
       }
+
+      pub peek_loop_goal : 1 ≤ most → (s : S) → Inv s → Goal most r sub ls C C Q (loop (λ s2. bind peek (by s2)) s)
+      peek_loop_goal some s inv = loop_goal most r sub ls {body = λ s2. bind peek (by s2)} {s = s} some peek_turns inv
