@@ -13,10 +13,9 @@ use Rattle.svr_tree.specs.declared.expr.Scope.{Scope}
 use Rattle.svr_tree.specs.declared.expr.Scope.TheVariants as scope
 use Rattle.svr_tree.specs.ExprTree.{ExprTree, number, path, bit_select, part_select, unary, binary, choice, inside, join, copies, sign, paren, RangeTree, one, span, BoundTree, value, dollar, exprs_of, ranges_of}
 use Rattle.svr_tree.specs.Operators.{precedence, least_right}
-use Rattle.svr_tree.specs.ExprGrammar.{is_selectable}
 use Rattle.svr_reader.specs.declared.fixed.Fixed.TheVariants as f
 use Rattle.svr_reader.specs.declared.fault.ReadFault.TheVariants.{NoMemory}
-use Rattle.svr_reader.specs.Program.{Turn, go, done, Program, pure, bind, refuse, peek, here, take, enter, call, loop, Parser, run}
+use Rattle.svr_reader.specs.Program.{Turn, go, done, Program, pure, refuse, peek, here, take, enter, call, loop, Parser, run}
 use Rattle.svr_reader.specs.Steps.{is_fixed, choose, expect}
 use Rattle.svr_reader.specs.Lists.{◌>>=◌, ◌>>◌, Tall, no_room, led, listing_on, listing}
 use Rattle.svr_expr.specs.declared.link.Link.{Link}
@@ -135,8 +134,8 @@ select_on at base = do
     last ← call 1
     expect (f.Mark m.CloseBracket)
     pure (part_select at base.0 first.0 last.0 false, max (max base.1 first.1) last.1 + 1)) (do
-    expect (f.Mark m.CloseBracket)
-    pure (bit_select at base.0 first.0 false, max base.1 first.1 + 1))
+      expect (f.Mark m.CloseBracket)
+      pure (bit_select at base.0 first.0 false, max base.1 first.1 + 1))
 
 abbrev pub suffix_by : ℕ → Tall ExprTree → Option Lexeme → Reader (Turn (Tall ExprTree) (Tall ExprTree))
 suffix_by at base (Some (lexeme.Mark m.OpenBracket)) = do

@@ -73,7 +73,7 @@ pub list_kept : {T : Type 0} {one : Calls (Tall T)} {first s more : Tall (List T
     → one old (Ok x) new → eaten (f.Mark m.Comma) new.now ≡ Ok (true, k) → more ≡ with_last s x → KeepsList one first start (turn + 1) more k
 list_kept {T} {one} {first} {s} {more} {start} turn old new x k h kept call eats is =
     subst (λ v. KeepsList one first start (turn + 1) v k) (sym is)
-      (λ r j rest. left_over (λ n. Lists one n s old.now r j) turn h (kept r j) (part_and_comma old new x call eats rest))
+    (λ r j rest. left_over (λ n. Lists one n s old.now r j) turn h (kept r j) (part_and_comma old new x call eats rest))
 
 -- ---- parts up to a mark
 
@@ -101,4 +101,4 @@ pub until_kept : {T : Type 0} {end : Fixed} {one : Calls (Tall T)} {first s more
     → eaten end i ≡ Ok (false, old.now) → one old (Ok x) new → more ≡ with_last s x → KeepsUntil end one first start (turn + 1) more new.now
 until_kept {T} {end} {one} {first} {s} {more} {start} {i} turn old new x h kept eats call is =
     subst (λ v. KeepsUntil end one first start (turn + 1) v new.now) (sym is)
-      (λ r j rest. left_over (λ n. Until end one n s i r j) turn h (kept r j) (until_goes_on old new x eats call rest))
+    (λ r j rest. left_over (λ n. Until end one n s i r j) turn h (kept r j) (until_goes_on old new x eats call rest))

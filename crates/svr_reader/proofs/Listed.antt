@@ -73,9 +73,9 @@ module _ {K : Type 0} {Ans : K → Type 0} (most r : ℕ) (sub : (k : K) → Par
       λ ne. fails (R p old.now) (after (talls_by view s)) (turned (turns n (λ v. R (list_step p v)))) e (h old new (Err e) call ne)
   lists_give one h (suc n) s i q j (part_and_comma old new x {k} call eats more) =
       subst (λ o. Gives (talls_by view) o q j)
-        (sym (ap (λ o. and_then o (turned (turns n (λ v. R (list_step p v))))) (one_turn (talls_by view s) (tall_by view x) old.now new.now k true (h old new (Ok x) call) eats)
-          ∙ ap (λ v. turns n (λ v2. R (list_step p v2)) v k) (same s x)))
-        (lists_give one h n (with_last s x) k q j more)
+      (sym (ap (λ o. and_then o (turned (turns n (λ v. R (list_step p v))))) (one_turn (talls_by view s) (tall_by view x) old.now new.now k true (h old new (Ok x) call) eats)
+      ∙ ap (λ v. turns n (λ v2. R (list_step p v2)) v k) (same s x)))
+      (lists_give one h n (with_last s x) k q j more)
   lists_give one h (suc n) s i q j (last_part old new x call eats) =
       ap (λ o. and_then o (turned (turns n (λ v. R (list_step p v))))) (one_turn (talls_by view s) (tall_by view x) old.now new.now j false (h old new (Ok x) call) eats)
       ∙ ap (λ v. Ok (v, j)) (same s x)
@@ -101,11 +101,11 @@ module _ {K : Type 0} {Ans : K → Type 0} (most r : ℕ) (sub : (k : K) → Par
   until_gives end one h n s i q j until_wants_memory = λ ne. absurd (ne refl)
   until_gives end one h (suc n) s i q j (until_fails old new e eats call) =
       λ ne. ap (λ o. and_then o (turned (turns n (λ v. R (until_step end p v))))) (one_part end (talls_by view s) i old.now eats)
-        ∙ fails (R p old.now) (longer (talls_by view s)) (turned (turns n (λ v. R (until_step end p v)))) e (h old new (Err e) call ne)
+      ∙ fails (R p old.now) (longer (talls_by view s)) (turned (turns n (λ v. R (until_step end p v)))) e (h old new (Err e) call ne)
   until_gives end one h (suc n) s i q j (until_goes_on old new x eats call more) =
       subst (λ o. Gives (talls_by view) o q j)
-        (sym (ap (λ o. and_then o (turned (turns n (λ v. R (until_step end p v)))))
-            (one_part end (talls_by view s) i old.now eats ∙ ap (λ o. and_then o (longer (talls_by view s))) (h old new (Ok x) call))
-          ∙ ap (λ v. turns n (λ v2. R (until_step end p v2)) v new.now) (same s x)))
-        (until_gives end one h n (with_last s x) new.now q j more)
+      (sym (ap (λ o. and_then o (turned (turns n (λ v. R (until_step end p v)))))
+      (one_part end (talls_by view s) i old.now eats ∙ ap (λ o. and_then o (longer (talls_by view s))) (h old new (Ok x) call))
+      ∙ ap (λ v. turns n (λ v2. R (until_step end p v2)) v new.now) (same s x)))
+      (until_gives end one h n (with_last s x) new.now q j more)
   until_gives end one h (suc n) s i q j (until_ends eats) = ap (λ o. and_then o (turned (turns n (λ v. R (until_step end p v))))) (its_end end (talls_by view s) i j eats)

@@ -1,10 +1,10 @@
 -- Productions that stop before a token which is not theirs, and read on behind any other.
-use Rattle.std.proofs.Common.{◌≡◌, ℕ, ◌+◌, ◌<◌, ◌≤◌, List, [], ◌∷◌, ◌++◌, length, Option, Ok, Err, ◌⊎◌, inl, inr, refl, sym, ◌∙◌, ap, subst, arith}
+use Rattle.std.proofs.Common.{◌≡◌, ℕ, ◌<◌, ◌≤◌, List, [], ◌++◌, length, Option, Ok, Err, inr, refl, sym, ◌∙◌, ap, subst}
 use Rattle.svr_token.specs.declared.Lexeme.{Lexeme}
 use Rattle.svr_tree.specs.Tokens.{Tok}
 use Rattle.svr_reader.specs.Program.{Turn, go, done, Program, bind, peek, loop, Outcome, Parser, lexeme_at, run}
 use Rattle.svr_reader.proofs.Local.{IsLocal, local_run}
-use Rattle.svr_reader.proofs.Live.{AnyToken, Later, Settled, same_front, later_peek}
+use Rattle.svr_reader.proofs.Live.{Later, Settled, same_front, later_peek}
 use Rattle.svr_reader.proofs.LiveLoops.{Then, Done, Goes, Turns}
 use Rattle.svr_reader.proofs.Goals.{Goal, Form, loop_goal}
 

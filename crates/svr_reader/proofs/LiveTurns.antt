@@ -1,17 +1,16 @@
 -- Loops whose turns each stand behind a word or mark: where a turn fails, what was read so far can be completed.
-use Rattle.std.proofs.Common.{◌≡◌, ℕ, suc, ◌+◌, ◌<◌, ◌≤◌, Bool, true, false, List, [], ◌∷◌, ◌++◌, length, Option, Some, None, Ok, Err, ◌⊎◌, inl, inr, refl, sym, ◌∙◌, ap, subst, arith}
+use Rattle.std.proofs.Common.{◌≡◌, ℕ, ◌≤◌, false, List, [], length, Option, Ok, ap, arith}
 use Rattle.svr_token.specs.declared.Lexeme.{Lexeme}
 use Rattle.svr_tree.specs.Tokens.{Tok}
 use Rattle.svr_reader.specs.declared.fixed.Fixed.{Fixed}
-use Rattle.svr_reader.specs.declared.fault.ReadFault.TheVariants.{NoMemory}
-use Rattle.svr_reader.specs.Program.{Turn, go, done, Program, pure, bind, peek, loop, Outcome, Parser, lexeme_at, run}
+use Rattle.svr_reader.specs.Program.{Turn, go, done, Program, pure, loop, Outcome, Parser, lexeme_at, run}
 use Rattle.svr_reader.specs.Steps.{is_fixed}
 use Rattle.svr_reader.specs.Lists.{led}
 use Rattle.svr_reader.proofs.Steps.{led_no, led_cases}
 use Rattle.svr_reader.proofs.Local.{IsLocal, local_run}
-use Rattle.svr_reader.proofs.Live.{AnyToken, Later, Finishes, Settled, later_peek, same_front, ok_shorter}
-use Rattle.svr_reader.proofs.LiveLoops.{Then, Done, Goes, Turns}
-use Rattle.svr_reader.proofs.Goals.{Goal, Form, loop_goal}
+use Rattle.svr_reader.proofs.Live.{AnyToken, ok_shorter}
+use Rattle.svr_reader.proofs.LiveLoops.{Then, Turns}
+use Rattle.svr_reader.proofs.Goals.{Goal, loop_goal}
 use Rattle.svr_reader.proofs.Led.{opt_goal}
 
 not_both : {S X : Type 0} (s : S) (x : X) (i j : List Tok) → ◌≡◌ {A = Outcome (Turn S X)} (Ok (done x, i)) (Ok (go s, j)) → ⊥
