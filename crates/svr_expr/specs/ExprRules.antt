@@ -82,6 +82,12 @@ known_path_by (Some (lexeme.Word w.Local)) = local_path
 known_path_by (Some (lexeme.Word w.This)) = this_path
 known_path_by _ = plain_path
 
+-- { "." NAME } behind the first name of a plain path: the path, and the kind of its last name
+unfoldable pub path_on : {K : Type 0} {Ans : K → Type 0} → ℕ × NameKind → Program K Ans (ExprTree × NameKind)
+path_on first = do
+  ns ← names_on first
+  pure (path first.0 scope.Plain ns.0 false, ns.1)
+
 -- a path, and the kind of its last name
 unfoldable pub known_path : {K : Type 0} {Ans : K → Type 0} → Program K Ans (ExprTree × NameKind)
 known_path = peek >>= known_path_by
@@ -388,6 +394,11 @@ expr most r least = node most r (an_expr least)
 unfoldable pub a_known_path : ℕ → ℕ → Parser (ExprTree × NameKind)
 a_known_path most zero i = no_room starts_path i
 a_known_path most (suc r) i = run most r (expr most r) known_path i
+
+-- { "[" expr "]" } behind a path that begins at this token, where a node may be as high as the second number. Nothing is said where there is no room for the path
+unfoldable pub a_member_on : ℕ → ℕ → ℕ → Tall ExprTree → Parser (Tall ExprTree)
+a_member_on most zero at base i = Err NoMemory
+a_member_on most (suc r) at base i = run most r (expr most r) (loop (member_step at) base) i
 
 -- lists and ranges of expressions of a height up to the second number
 unfoldable pub some_exprs : ℕ → ℕ → Parser (Tall (List ExprTree))

@@ -1,6 +1,21 @@
 //! Expressions, read from tokens (IEEE 1800-2017, A.8 and table 11-2).
+//!
+//! Each function gives what its program in `specs/ExprRules.antt` gives, with the tokens that are left, or its fault. `room` is the greatest height that there is room for.
+//!
+//! What crates above cite: `specs/ExprRules.antt`, and `proofs/Anywhere.antt`, by which names and paths come to the same in the programs of other constructs.
 #![tactic(auto)]
 
+mod climb;
 mod link;
+mod lists;
+mod names;
+mod node;
+mod operand;
+mod parts;
+mod suffix;
+#[cfg(test)]
+mod tests;
 
 pub use link::{Link, link_of, unary_of};
+pub use names::{known_name, known_path, name, path_on};
+pub use node::{expr, exprs, links_of, member, member_on, path, range, rest_of};
