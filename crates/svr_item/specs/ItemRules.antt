@@ -1,0 +1,262 @@
+-- The productions of constraint items, as programs (IEEE 1800-2017, A.1.10). Each answer has its height beside it.
+use Rattle.std.specs.Prelude.{ℕ, zero, suc, ◌+◌, max, Bool, true, false, List, Option, Some, None}
+use Rattle.svr_token.specs.declared.Lexeme.{Lexeme}
+use Rattle.svr_token.specs.declared.Lexeme.TheVariants as lexeme
+use Rattle.svr_token.specs.declared.Word.TheVariants as w
+use Rattle.svr_token.specs.declared.Mark.TheVariants as m
+use Rattle.svr_typed.specs.declared.Share.{Share}
+use Rattle.svr_typed.specs.declared.Share.TheVariants as share
+use Rattle.svr_tree.specs.ExprTree.{ExprTree, RangeTree, exprs_of}
+use Rattle.svr_tree.specs.ItemTree.{DistItemTree, DistTree, ItemTree, plain, unique, implies, branch, foreach, disable, solve, no_items, more_items, SetTree, set, ElseTree, no_else, else_set, items_of}
+use Rattle.svr_reader.specs.declared.fixed.Fixed.TheVariants as f
+use Rattle.svr_reader.specs.Program.{Program, pure, peek, here, take, enter, call, Parser, run}
+use Rattle.svr_reader.specs.Steps.{expect}
+use Rattle.svr_reader.specs.Lists.{◌>>=◌, ◌>>◌, Tall, no_room, led, listing, until}
+use Rattle.svr_expr.specs.ExprRules.{Node, an_expr, a_path, a_member, links_of, starts, name, node, a_range}
+
+-- ---- what an item calls for, one level below
+
+pub data Part : Type 0 where
+  -- an expression, a path, a member of `unique`, or an expression behind its first operand
+  a_node : Node → Part
+  -- a range of a `dist` set
+  a_set_range : Part
+  an_item : Part
+
+-- what a call gives
+abbrev pub Ans : Part → Type 0
+Ans (a_node k) = Tall ExprTree
+Ans a_set_range = Tall RangeTree
+Ans an_item = Tall ItemTree
+
+abbrev pub Reader : Type 0 → Type 1
+Reader A = Program Part Ans A
+
+-- ---- `dist`
+
+unfoldable pub weight_of : Share → Reader (Tall (Option (Share × ExprTree)))
+weight_of s = do
+  take
+  x ← call (a_node (an_expr 1))
+  pure (Some (s, x.0), x.1)
+
+abbrev pub weight_by : Option Lexeme → Reader (Tall (Option (Share × ExprTree)))
+weight_by (Some (lexeme.Mark m.ColonEqual)) = weight_of share.Each
+weight_by (Some (lexeme.Mark m.ColonSlash)) = weight_of share.Whole
+weight_by _ = pure (None, 0)
+
+-- A.1.10: [ dist_weight ]
+unfoldable pub weight : Reader (Tall (Option (Share × ExprTree)))
+weight = peek >>= weight_by
+
+-- A.1.10: dist_item
+unfoldable pub dist_item : Reader (Tall DistItemTree)
+dist_item = do
+  span ← call a_set_range
+  g ← weight
+  pure (record { range = span.0; weight = g.0 }, max span.1 g.1)
+
+unfoldable pub distributed : Reader (Tall (Option DistTree))
+distributed = do
+  at ← take
+  expect (f.Mark m.OpenBrace)
+  ds ← listing dist_item
+  expect (f.Mark m.CloseBrace)
+  pure (Some (record { at = at; items = ds.0 }), ds.1)
+
+abbrev pub dist_by : Option Lexeme → Reader (Tall (Option DistTree))
+dist_by (Some (lexeme.Word w.Dist)) = distributed
+dist_by _ = pure (None, 0)
+
+-- [ "dist" "{" dist_list "}" ]
+unfoldable pub dist : Reader (Tall (Option DistTree))
+dist = peek >>= dist_by
+
+-- ---- sets
+
+-- { item } "}"
+unfoldable pub items : Reader (Tall (List ItemTree))
+items = until (f.Mark m.CloseBrace) (call an_item)
+
+unfoldable pub braced_set : Reader (Tall SetTree)
+braced_set = do
+  is ← items
+  pure (set true (items_of is.0), is.1)
+
+unfoldable pub single_set : Reader (Tall SetTree)
+single_set = do
+  x ← call an_item
+  pure (set false (more_items x.0 no_items), x.1)
+
+-- A.1.10: constraint_set
+unfoldable pub item_set : Reader (Tall SetTree)
+item_set = led (f.Mark m.OpenBrace) braced_set single_set
+
+unfoldable pub else_branch : Reader (Tall ElseTree)
+else_branch = do
+  s ← item_set
+  pure (else_set s.0, s.1)
+
+-- [ "else" constraint_set ]
+unfoldable pub otherwise : Reader (Tall ElseTree)
+otherwise = led (f.Word w.Else) else_branch (pure (no_else, 0))
+
+-- ---- items that begin with an expression, which begins at `at`
+
+-- what follows the expression of an item: [ dist ] ";"
+unfoldable pub weighed : ℕ → Bool → Tall ExprTree → Reader (Tall ItemTree)
+weighed at soft e = do
+  d ← dist
+  expect (f.Mark m.Semicolon)
+  pure (plain at soft e.0 d.0, max e.1 d.1 + 1)
+
+-- "->" constraint_set
+unfoldable pub implied : ℕ → Tall ExprTree → Reader (Tall ItemTree)
+implied at t = do
+  take
+  body ← item_set
+  pure (implies at t.0 body.0, max t.1 body.1 + 1)
+
+-- "<->" expression ";"
+unfoldable pub equivalent : ℕ → Tall ExprTree → Reader (Tall ItemTree)
+equivalent at left = do
+  whole ← call (a_node (links_of at left))
+  expect (f.Mark m.Semicolon)
+  pure (plain at false whole.0 None, whole.1 + 1)
+
+abbrev pub stated_by : ℕ → Tall ExprTree → Option Lexeme → Reader (Tall ItemTree)
+stated_by at e (Some (lexeme.Mark m.Arrow)) = implied at e
+stated_by at e (Some (lexeme.Mark m.DoubleArrow)) = equivalent at e
+stated_by at e _ = weighed at false e
+
+unfoldable pub stated_on : ℕ → Tall ExprTree → Reader (Tall ItemTree)
+stated_on at e = peek >>= stated_by at e
+
+unfoldable pub stated : Reader (Tall ItemTree)
+stated = do
+  at ← here
+  e ← call (a_node (an_expr 2))
+  stated_on at e
+
+-- ---- items that a word leads
+
+unfoldable pub soft_item : Reader (Tall ItemTree)
+soft_item = do
+  at ← enter 1
+  e ← call (a_node (an_expr 1))
+  weighed at true e
+
+-- A.1.10: uniqueness_constraint
+unfoldable pub unique_item : Reader (Tall ItemTree)
+unique_item = do
+  at ← enter 1
+  expect (f.Mark m.OpenBrace)
+  members ← listing (call (a_node a_member))
+  expect (f.Mark m.CloseBrace)
+  expect (f.Mark m.Semicolon)
+  pure (unique at (exprs_of members.0), members.1 + 1)
+
+unfoldable pub branch_item : Reader (Tall ItemTree)
+branch_item = do
+  at ← enter 1
+  expect (f.Mark m.OpenParen)
+  t ← call (a_node (an_expr 1))
+  expect (f.Mark m.CloseParen)
+  met ← item_set
+  unmet ← otherwise
+  pure (branch at t.0 met.0 unmet.0, max (max t.1 met.1) unmet.1 + 1)
+
+unfoldable pub foreach_item : Reader (Tall ItemTree)
+foreach_item = do
+  at ← enter 1
+  expect (f.Mark m.OpenParen)
+  a ← call (a_node a_path)
+  expect (f.Mark m.OpenBracket)
+  v ← name
+  expect (f.Mark m.CloseBracket)
+  expect (f.Mark m.CloseParen)
+  body ← item_set
+  pure (foreach at a.0 v body.0, max a.1 body.1 + 1)
+
+unfoldable pub disable_item : Reader (Tall ItemTree)
+disable_item = do
+  at ← enter 1
+  expect (f.Word w.Soft)
+  target ← call (a_node a_member)
+  expect (f.Mark m.Semicolon)
+  pure (disable at target.0, target.1 + 1)
+
+unfoldable pub solve_item : Reader (Tall ItemTree)
+solve_item = do
+  at ← enter 1
+  first ← listing (call (a_node a_path))
+  expect (f.Word w.Before)
+  later ← listing (call (a_node a_path))
+  expect (f.Mark m.Semicolon)
+  pure (solve at (exprs_of first.0) (exprs_of later.0), max first.1 later.1 + 1)
+
+-- ---- items
+
+abbrev pub item_by : Option Lexeme → Reader (Tall ItemTree)
+item_by (Some (lexeme.Word w.Soft)) = soft_item
+item_by (Some (lexeme.Word w.Unique)) = unique_item
+item_by (Some (lexeme.Word w.If)) = branch_item
+item_by (Some (lexeme.Word w.Foreach)) = foreach_item
+item_by (Some (lexeme.Word w.Disable)) = disable_item
+item_by _ = stated
+
+-- A.1.10: constraint_expression
+unfoldable pub item_in : Reader (Tall ItemTree)
+item_in = peek >>= item_by
+
+abbrev pub block_item_by : Option Lexeme → Reader (Tall ItemTree)
+block_item_by (Some (lexeme.Word w.Solve)) = solve_item
+block_item_by l = item_by l
+
+-- A.1.10: constraint_block_item
+unfoldable pub block_item_in : Reader (Tall ItemTree)
+block_item_in = peek >>= block_item_by
+
+-- what an item begins with
+abbrev pub item_starts : Option Lexeme → Bool
+item_starts (Some (lexeme.Word w.Soft)) = true
+item_starts (Some (lexeme.Word w.Unique)) = true
+item_starts (Some (lexeme.Word w.If)) = true
+item_starts (Some (lexeme.Word w.Foreach)) = true
+item_starts (Some (lexeme.Word w.Disable)) = true
+item_starts l = starts l
+
+-- and an item that stands directly in a block
+abbrev pub block_starts : Option Lexeme → Bool
+block_starts (Some (lexeme.Word w.Solve)) = true
+block_starts l = item_starts l
+
+-- ---- the parsers
+
+-- nodes and ranges of a height up to the second number, and items by the parser that is given
+abbrev pub part : ℕ → ℕ → Parser (Tall ItemTree) → (k : Part) → Parser (Ans k)
+part most r below (a_node k) = node most r k
+part most r below a_set_range = a_range most r
+part most r below an_item = below
+
+-- an item of a height up to the second number. No list is longer than the first number
+unfoldable pub item : ℕ → ℕ → Parser (Tall ItemTree)
+item most zero i = no_room item_starts i
+item most (suc r) i = run most r (part most r (item most r)) item_in i
+
+-- where the parts of an item may be as high as the second number
+abbrev pub within : {A : Type 0} → ℕ → ℕ → Reader A → Parser A
+within most r p = run most r (part most r (item most r)) p
+
+-- an item that stands directly in a block
+unfoldable pub block_item : ℕ → ℕ → Parser (Tall ItemTree)
+block_item most zero i = no_room block_starts i
+block_item most (suc r) i = within most r block_item_in i
+
+-- items of a height up to the second number, up to the closing brace, which is taken
+unfoldable pub set_items : ℕ → ℕ → Parser (Tall (List ItemTree))
+set_items most r = within most r items
+
+-- the same of items that stand directly in a block
+unfoldable pub block_items : ℕ → ℕ → Parser (Tall (List ItemTree))
+block_items most r = run {K = Unit {0}} {Ans = λ u. Tall ItemTree} most r (λ u. block_item most r) (until (f.Mark m.CloseBrace) (call tt))

@@ -1,0 +1,157 @@
+// Items that a word leads (IEEE 1800-2017, A.1.10).
+
+ghost use Rattle.std.specs.Prelude.{◌≡◌, ◌≤◌, ◌<◌, ◌+◌, ◌^◌, IfOk};
+ghost use Rattle.svr_reader.specs.Answers.{Gives};
+ghost use Rattle.svr_reader.specs.Calls.{cap, tall_by, talls_by};
+ghost use Rattle.svr_reader.specs.Program.{call};
+ghost use Rattle.svr_reader.specs.Lists as lists;
+ghost use Rattle.svr_tree.specs.ExprTree.{expr_tree};
+ghost use Rattle.svr_tree.specs.ItemTree as tree;
+ghost use Rattle.svr_tree.specs.ItemTree.{item_tree, set_tree};
+ghost use Rattle.svr_expr.specs.ExprRules.{a_path, a_member};
+ghost use Rattle.svr_item.specs.ItemRules as spec;
+ghost use Rattle.svr_item.specs.Parts.{ReadsItems, else_view};
+
+use crate::parts::Parts;
+use sqlite_items::Items;
+use std::alloc::Global;
+use svr_expr::{expr, member, path};
+use svr_reader::{Cursor, Fixed, ReadFault, listing};
+use svr_tree::{Expr, Item, Mark, Set, Word};
+
+/// An `if` of these parts.
+fn branch(at: u32, test: Expr, yes: Set, no: Option<Set>) -> Item
+    ensures { item_tree result ≡ tree.branch at (expr_tree test) (set_tree yes) (else_view no) }
+{
+    match no {
+        Some(no) => Item::branch_else(at, test, yes, no),
+        None => Item::branch(at, test, yes),
+    }
+}
+
+impl<F: Fn(Global, &mut Cursor<'_>, usize) -> Result<(Item, usize), ReadFault>> Parts<F> {
+    /// `soft` and an expression.
+    #[tactic(auto, unfolding(crate::specs::ItemRules::soft_item))]
+    pub fn soft_item(&self, cursor: &mut Cursor<'_>) -> Result<(Item, usize), ReadFault>
+        requires room { self.now.room + 1 < 2 ^ 64 }
+        ensures gives { Gives (tall_by item_tree) (spec.within cap self.now.room spec.soft_item cursor.old) result cursor.new }
+        ensures low { IfOk result (λ x. x.1 ≤ self.now.room + 1) }
+    {
+        let at = cursor.enter(self.room, 1)?;
+        let (expr, height) = expr(self.alloc, cursor, self.room, 1)?;
+        self.weighed(cursor, at, true, expr, height)
+    }
+
+    /// Paths with commas between them.
+    fn paths(&self, cursor: &mut Cursor<'_>) -> Result<(Items<Expr>, usize), ReadFault>
+        ensures gives { Gives (talls_by expr_tree) (spec.within cap self.now.room (lists.listing (call (spec.a_node a_path))) cursor.old) result cursor.new }
+        ensures low { IfOk result (λ x. x.1 ≤ self.now.room) }
+    {
+        listing(
+            self.alloc,
+            cursor,
+            |cursor| path(self.alloc, cursor, self.room),
+        )
+    }
+
+    /// Paths with indices, with commas between them.
+    fn members(&self, cursor: &mut Cursor<'_>) -> Result<(Items<Expr>, usize), ReadFault>
+        ensures gives { Gives (talls_by expr_tree) (spec.within cap self.now.room (lists.listing (call (spec.a_node a_member))) cursor.old) result cursor.new }
+        ensures low { IfOk result (λ x. x.1 ≤ self.now.room) }
+    {
+        listing(
+            self.alloc,
+            cursor,
+            |cursor| member(self.alloc, cursor, self.room),
+        )
+    }
+
+    /// `unique { members };`
+    #[tactic(auto, unfolding(crate::specs::ItemRules::unique_item))]
+    pub fn unique_item(&self, cursor: &mut Cursor<'_>) -> Result<(Item, usize), ReadFault>
+        requires room { self.now.room + 1 < 2 ^ 64 }
+        ensures gives { Gives (tall_by item_tree) (spec.within cap self.now.room spec.unique_item cursor.old) result cursor.new }
+        ensures low { IfOk result (λ x. x.1 ≤ self.now.room + 1) }
+    {
+        let at = cursor.enter(self.room, 1)?;
+        self.expect(cursor, Fixed::Mark(Mark::OpenBrace))?;
+        let (members, height) = self.members(cursor)?;
+        self.expect(cursor, Fixed::Mark(Mark::CloseBrace))?;
+        self.expect(cursor, Fixed::Mark(Mark::Semicolon))?;
+        Ok((Item::unique(at, members), height + 1))
+    }
+
+    /// `disable soft target;`
+    #[tactic(auto, unfolding(crate::specs::ItemRules::disable_item))]
+    pub fn disable_item(&self, cursor: &mut Cursor<'_>) -> Result<(Item, usize), ReadFault>
+        requires room { self.now.room + 1 < 2 ^ 64 }
+        ensures gives { Gives (tall_by item_tree) (spec.within cap self.now.room spec.disable_item cursor.old) result cursor.new }
+        ensures low { IfOk result (λ x. x.1 ≤ self.now.room + 1) }
+    {
+        let at = cursor.enter(self.room, 1)?;
+        self.expect(cursor, Fixed::Word(Word::Soft))?;
+        let (target, height) = member(self.alloc, cursor, self.room)?;
+        self.expect(cursor, Fixed::Mark(Mark::Semicolon))?;
+        Ok((Item::disable(at, target), height + 1))
+    }
+
+    /// `solve first before later;`
+    #[tactic(auto, unfolding(crate::specs::ItemRules::solve_item))]
+    pub fn solve_item(&self, cursor: &mut Cursor<'_>) -> Result<(Item, usize), ReadFault>
+        requires room { self.now.room + 1 < 2 ^ 64 }
+        ensures gives { Gives (tall_by item_tree) (spec.within cap self.now.room spec.solve_item cursor.old) result cursor.new }
+        ensures low { IfOk result (λ x. x.1 ≤ self.now.room + 1) }
+    {
+        let at = cursor.enter(self.room, 1)?;
+        let (first, first_height) = self.paths(cursor)?;
+        self.expect(cursor, Fixed::Word(Word::Before))?;
+        let (later, later_height) = self.paths(cursor)?;
+        self.expect(cursor, Fixed::Mark(Mark::Semicolon))?;
+        Ok((
+            Item::solve(at, first, later),
+            first_height.max(later_height) + 1,
+        ))
+    }
+
+    /// `if (test) set [else set]`
+    #[tactic(auto, unfolding(crate::specs::ItemRules::branch_item))]
+    pub fn branch_item(&self, cursor: &mut Cursor<'_>) -> Result<(Item, usize), ReadFault>
+        requires reads { ReadsItems self.now.room (F.pre self.now.item) (F.post self.now.item) }
+        requires room { self.now.room + 1 < 2 ^ 64 }
+        ensures gives { Gives (tall_by item_tree) (spec.within cap self.now.room spec.branch_item cursor.old) result cursor.new }
+        ensures low { IfOk result (λ x. x.1 ≤ self.now.room + 1) }
+    {
+        let at = cursor.enter(self.room, 1)?;
+        self.expect(cursor, Fixed::Mark(Mark::OpenParen))?;
+        let (test, test_height) = expr(self.alloc, cursor, self.room, 1)?;
+        self.expect(cursor, Fixed::Mark(Mark::CloseParen))?;
+        let (yes, yes_height) = self.set(cursor)?;
+        let (no, no_height) = self.otherwise(cursor)?;
+        Ok((
+            branch(at, test, yes, no),
+            test_height.max(yes_height).max(no_height) + 1,
+        ))
+    }
+
+    /// `foreach (array[var]) set`
+    #[tactic(auto, unfolding(crate::specs::ItemRules::foreach_item))]
+    pub fn foreach_item(&self, cursor: &mut Cursor<'_>) -> Result<(Item, usize), ReadFault>
+        requires reads { ReadsItems self.now.room (F.pre self.now.item) (F.post self.now.item) }
+        requires room { self.now.room + 1 < 2 ^ 64 }
+        ensures gives { Gives (tall_by item_tree) (spec.within cap self.now.room spec.foreach_item cursor.old) result cursor.new }
+        ensures low { IfOk result (λ x. x.1 ≤ self.now.room + 1) }
+    {
+        let at = cursor.enter(self.room, 1)?;
+        self.expect(cursor, Fixed::Mark(Mark::OpenParen))?;
+        let (array, array_height) = path(self.alloc, cursor, self.room)?;
+        self.expect(cursor, Fixed::Mark(Mark::OpenBracket))?;
+        let var = self.name(cursor)?;
+        self.expect(cursor, Fixed::Mark(Mark::CloseBracket))?;
+        self.expect(cursor, Fixed::Mark(Mark::CloseParen))?;
+        let (body, body_height) = self.set(cursor)?;
+        Ok((
+            Item::foreach(at, array, var, body),
+            array_height.max(body_height) + 1,
+        ))
+    }
+}

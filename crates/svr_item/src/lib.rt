@@ -1,0 +1,18 @@
+//! Constraint items, read from tokens (IEEE 1800-2017, A.1.10).
+//!
+//! Each function gives what its program in `specs/ItemRules.antt` gives, with the tokens that are left, or its fault. `room` is the greatest height that there is room for.
+#![tactic(auto)]
+
+mod block;
+mod dist;
+mod items;
+mod led;
+mod parts;
+mod sets;
+mod starts;
+mod stated;
+#[cfg(test)]
+mod tests;
+
+pub use block::{block_item, block_items};
+pub use items::{item, set_items};

@@ -1,0 +1,84 @@
+// Constraint sets (IEEE 1800-2017, A.1.10).
+
+ghost use Rattle.std.specs.Prelude.{◌≡◌, ◌≤◌, IfOk};
+ghost use Rattle.svr_reader.specs.Answers.{Gives};
+ghost use Rattle.svr_reader.specs.Calls.{cap, tall_by, talls_by};
+ghost use Rattle.svr_tree.specs.ItemTree.{item_tree, set_tree};
+ghost use Rattle.svr_item.specs.ItemRules as spec;
+ghost use Rattle.svr_item.specs.Parts.{ReadsItems, else_view};
+
+use crate::parts::Parts;
+use sqlite_items::Items;
+use std::alloc::Global;
+use svr_reader::{Cursor, Fixed, ReadFault, until};
+use svr_tree::{Item, Mark, Set, Word};
+
+impl<F: Fn(Global, &mut Cursor<'_>, usize) -> Result<(Item, usize), ReadFault>> Parts<F> {
+    /// Items up to the closing brace, which is taken.
+    #[tactic(auto, unfolding(crate::specs::ItemRules::items))]
+    pub fn items(&self, cursor: &mut Cursor<'_>) -> Result<(Items<Item>, usize), ReadFault>
+        requires reads { ReadsItems self.now.room (F.pre self.now.item) (F.post self.now.item) }
+        ensures gives { Gives (talls_by item_tree) (spec.within cap self.now.room spec.items cursor.old) result cursor.new }
+        ensures low { IfOk result (λ x. x.1 ≤ self.now.room) }
+    {
+        until(
+            self.alloc,
+            cursor,
+            Fixed::Mark(Mark::CloseBrace),
+            |cursor| self.part(cursor),
+        )
+    }
+
+    /// Items in braces, behind the first one.
+    #[tactic(auto, unfolding(crate::specs::ItemRules::braced_set))]
+    fn braced_set(&self, cursor: &mut Cursor<'_>) -> Result<(Set, usize), ReadFault>
+        requires reads { ReadsItems self.now.room (F.pre self.now.item) (F.post self.now.item) }
+        ensures gives { Gives (tall_by set_tree) (spec.within cap self.now.room spec.braced_set cursor.old) result cursor.new }
+        ensures low { IfOk result (λ x. x.1 ≤ self.now.room) }
+    {
+        let (items, height) = self.items(cursor)?;
+        Ok((Set::new(true, items), height))
+    }
+
+    /// One item without braces.
+    #[tactic(auto, unfolding(crate::specs::ItemRules::single_set))]
+    fn single_set(&self, cursor: &mut Cursor<'_>) -> Result<(Set, usize), ReadFault>
+        requires reads { ReadsItems self.now.room (F.pre self.now.item) (F.post self.now.item) }
+        ensures gives { Gives (tall_by set_tree) (spec.within cap self.now.room spec.single_set cursor.old) result cursor.new }
+        ensures low { IfOk result (λ x. x.1 ≤ self.now.room) }
+    {
+        let (item, height) = self.part(cursor)?;
+        let mut items = Items::new(self.alloc);
+        items.push(item)?;
+        Ok((Set::new(false, items), height))
+    }
+
+    /// A set, braced where a brace comes next.
+    #[tactic(auto, unfolding(crate::specs::ItemRules::item_set))]
+    pub fn set(&self, cursor: &mut Cursor<'_>) -> Result<(Set, usize), ReadFault>
+        requires reads { ReadsItems self.now.room (F.pre self.now.item) (F.post self.now.item) }
+        ensures gives { Gives (tall_by set_tree) (spec.within cap self.now.room spec.item_set cursor.old) result cursor.new }
+        ensures low { IfOk result (λ x. x.1 ≤ self.now.room) }
+    {
+        if self.eat(cursor, Fixed::Mark(Mark::OpenBrace))? {
+            self.braced_set(cursor)
+        } else {
+            self.single_set(cursor)
+        }
+    }
+
+    /// `else` and its set, where `else` comes next.
+    #[tactic(auto, unfolding(crate::specs::ItemRules::otherwise, crate::specs::ItemRules::else_branch))]
+    pub fn otherwise(&self, cursor: &mut Cursor<'_>) -> Result<(Option<Set>, usize), ReadFault>
+        requires reads { ReadsItems self.now.room (F.pre self.now.item) (F.post self.now.item) }
+        ensures gives { Gives (tall_by else_view) (spec.within cap self.now.room spec.otherwise cursor.old) result cursor.new }
+        ensures low { IfOk result (λ x. x.1 ≤ self.now.room) }
+    {
+        if self.eat(cursor, Fixed::Word(Word::Else))? {
+            let (set, height) = self.set(cursor)?;
+            Ok((Some(set), height))
+        } else {
+            Ok((None, 0))
+        }
+    }
+}

@@ -1,0 +1,15 @@
+pub mod LiveLed
+pub mod Trees
+pub mod SoundParts
+pub mod SoundSets
+pub mod Sound
+pub mod Growth
+pub mod Firsts
+pub mod CompleteParts
+pub mod CompleteSets
+pub mod Complete
+pub mod CompleteItems
+pub mod LiveTakes
+pub mod LiveParts
+pub mod LiveSets
+pub mod Live
