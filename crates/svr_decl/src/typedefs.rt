@@ -1,0 +1,120 @@
+// Type declarations.
+
+ghost use Rattle.std.specs.Prelude.{◌≤◌, IfOk, option_map};
+ghost use Rattle.svr_tree.specs.ExprTree.{expr_tree};
+ghost use Rattle.svr_tree.specs.DeclTree.{integer_tree, member_tree, definition_tree, type_decl_tree};
+ghost use Rattle.svr_reader.specs.Lists as lists;
+ghost use Rattle.svr_reader.specs.Answers.{Gives};
+ghost use Rattle.svr_reader.specs.Calls.{cap, tall_by, talls_by};
+ghost use Rattle.svr_decl.specs.DeclRules as rules;
+
+use crate::reader::Reader;
+use crate::types::starts_type;
+use sqlite_items::Items;
+use std::alloc::Global;
+use svr_reader::{Cursor, Fixed, ReadFault, listing};
+use svr_tree::{EnumDecl, Expr, IntegerType, Mark, MemberDecl, TypeDecl, TypeDefinition, Word};
+
+/// A type declaration, and the greatest height of an expression in it (IEEE 1800-2017, A.2.1.3). No expression is higher than `room`.
+///
+/// # Errors
+///
+/// The first token that can't stand there, or that begins an expression for which there is no room.
+#[tactic(auto, unfolding(crate::specs::DeclRules::typedef))]
+pub fn typedef(
+    alloc: Global,
+    cursor: &mut Cursor<'_>,
+    room: usize,
+) -> Result<(TypeDecl, usize), ReadFault>
+    ensures gives { Gives (tall_by type_decl_tree) (rules.typedef cap room cursor.old) result cursor.new }
+    ensures low { IfOk result (λ x. x.1 ≤ room) }
+{
+    Reader { alloc, room }.typedef(cursor)
+}
+
+impl Reader {
+    /// `[= value]`
+    #[tactic(auto, unfolding(crate::specs::DeclRules::initial))]
+    pub fn initial(self, cursor: &mut Cursor<'_>) -> Result<(Option<Expr>, usize), ReadFault>
+        ensures gives { Gives (tall_by (option_map expr_tree)) (rules.within cap self.room rules.initial cursor.old) result cursor.new }
+        ensures low { IfOk result (λ x. x.1 ≤ self.room) }
+    {
+        if self.eat(cursor, Fixed::Mark(Mark::Assign))? {
+            let (value, height) = self.expression(cursor)?;
+            Ok((Some(value), height))
+        } else {
+            Ok((None, 0))
+        }
+    }
+
+    #[tactic(auto, unfolding(crate::specs::DeclRules::member))]
+    fn member(self, cursor: &mut Cursor<'_>) -> Result<(MemberDecl, usize), ReadFault>
+        ensures gives { Gives (tall_by member_tree) (rules.within cap self.room rules.member cursor.old) result cursor.new }
+        ensures low { IfOk result (λ x. x.1 ≤ self.room) }
+    {
+        let name = self.name(cursor)?;
+        let (value, height) = self.initial(cursor)?;
+        Ok((MemberDecl { name, value }, height))
+    }
+
+    fn members(self, cursor: &mut Cursor<'_>) -> Result<(Items<MemberDecl>, usize), ReadFault>
+        ensures gives { Gives (talls_by member_tree) (rules.within cap self.room (lists.listing rules.member) cursor.old) result cursor.new }
+        ensures low { IfOk result (λ x. x.1 ≤ self.room) }
+    {
+        listing(self.alloc, cursor, |cursor| self.member(cursor))
+    }
+
+    #[tactic(auto, unfolding(crate::specs::DeclRules::enum_base, crate::specs::DeclRules::written_base))]
+    fn enum_base(self, cursor: &mut Cursor<'_>) -> Result<(Option<IntegerType>, usize), ReadFault>
+        ensures gives { Gives (tall_by (option_map integer_tree)) (rules.within cap self.room rules.enum_base cursor.old) result cursor.new }
+        ensures low { IfOk result (λ x. x.1 ≤ self.room) }
+    {
+        if starts_type(cursor.peek()) {
+            let (base, height) = self.integer_type(cursor)?;
+            Ok((Some(base), height))
+        } else {
+            Ok((None, 0))
+        }
+    }
+
+    // Behind `enum`.
+    #[tactic(auto, unfolding(crate::specs::DeclRules::enum_on))]
+    fn enum_on(self, cursor: &mut Cursor<'_>) -> Result<(TypeDefinition, usize), ReadFault>
+        ensures gives { Gives (tall_by definition_tree) (rules.within cap self.room rules.enum_on cursor.old) result cursor.new }
+        ensures low { IfOk result (λ x. x.1 ≤ self.room) }
+    {
+        let (base, base_height) = self.enum_base(cursor)?;
+        self.expect(cursor, Fixed::Mark(Mark::OpenBrace))?;
+        let (members, members_height) = self.members(cursor)?;
+        self.expect(cursor, Fixed::Mark(Mark::CloseBrace))?;
+        Ok((
+            TypeDefinition::Enum(EnumDecl { base, members }),
+            base_height.max(members_height),
+        ))
+    }
+
+    #[tactic(auto, unfolding(crate::specs::DeclRules::definition, crate::specs::DeclRules::plain_definition))]
+    fn definition(self, cursor: &mut Cursor<'_>) -> Result<(TypeDefinition, usize), ReadFault>
+        ensures gives { Gives (tall_by definition_tree) (rules.within cap self.room rules.definition cursor.old) result cursor.new }
+        ensures low { IfOk result (λ x. x.1 ≤ self.room) }
+    {
+        if self.eat(cursor, Fixed::Word(Word::Enum))? {
+            self.enum_on(cursor)
+        } else {
+            let (found, height) = self.integer_type(cursor)?;
+            Ok((TypeDefinition::Integer(found), height))
+        }
+    }
+
+    #[tactic(auto, unfolding(crate::specs::DeclRules::typedef_in))]
+    fn typedef(self, cursor: &mut Cursor<'_>) -> Result<(TypeDecl, usize), ReadFault>
+        ensures gives { Gives (tall_by type_decl_tree) (rules.within cap self.room rules.typedef_in cursor.old) result cursor.new }
+        ensures low { IfOk result (λ x. x.1 ≤ self.room) }
+    {
+        self.expect(cursor, Fixed::Word(Word::TypeDef))?;
+        let (definition, height) = self.definition(cursor)?;
+        let name = self.name(cursor)?;
+        self.expect(cursor, Fixed::Mark(Mark::Semicolon))?;
+        Ok((TypeDecl { definition, name }, height))
+    }
+}

@@ -1,0 +1,13 @@
+pub mod Before
+pub mod SoundTypes
+pub mod SoundMembers
+pub mod SoundClasses
+pub mod CompleteTypes
+pub mod CompleteMembers
+pub mod CompleteClasses
+pub mod Firsts
+pub mod Growth
+pub mod LiveTypes
+pub mod LiveMembers
+pub mod LiveClasses
+pub mod Layer
