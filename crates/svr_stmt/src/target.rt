@@ -1,0 +1,137 @@
+// Statements that begin with a path (IEEE 1800-2017, A.6.2, A.6.4, 18.8 and 18.9).
+
+ghost use Rattle.std.specs.Prelude.{◌≤◌, ◌<◌, ◌+◌, ◌^◌, IfOk};
+ghost use Rattle.svr_reader.specs.Answers.{Gives};
+ghost use Rattle.svr_reader.specs.Calls.{tall_by};
+ghost use Rattle.svr_tree.specs.ExprTree.{expr_tree};
+ghost use Rattle.svr_tree.specs.StmtTree.{stmt_tree};
+ghost use Rattle.svr_stmt.specs.StmtRules as spec;
+ghost use Rattle.svr_stmt.specs.Parts.{R};
+
+use crate::method::{Method, owner, path_method};
+use crate::parts::Parts;
+use svr_expr::{expr, member_on};
+use svr_reader::{Cursor, Fixed, ReadFault};
+use svr_tree::{CallForm, Expr, Mark, ModeCall, ModeKind, NameKind, Stmt};
+
+impl Parts {
+    /// The indices of a target, and the value that it gets.
+    #[tactic(auto, unfolding(crate::specs::StmtRules::assigned))]
+    fn assigned(
+        &self,
+        cursor: &mut Cursor<'_>,
+        at: u32,
+        path: Expr,
+    ) -> Result<(Stmt, usize), ReadFault>
+        requires path { 1 ≤ self.now.room }
+        requires room { self.now.room + 1 < 2 ^ 64 }
+        ensures gives { Gives (tall_by stmt_tree) (R self.now.room (spec.assigned at (expr_tree path)) cursor.old) result cursor.new }
+        ensures low { IfOk result (λ x. x.1 ≤ self.now.room + 1) }
+    {
+        let (target, height) = member_on(self.alloc, cursor, self.room, at, path, 1)?;
+        self.expect(cursor, Fixed::Mark(Mark::Assign))?;
+        let (value, value_height) = self.right_in(cursor)?;
+        self.expect(cursor, Fixed::Mark(Mark::Semicolon))?;
+        Ok((
+            Stmt::assign(at, target, value),
+            height.max(value_height) + 1,
+        ))
+    }
+
+    /// The rest of a call behind `(`.
+    #[tactic(auto, unfolding(crate::specs::StmtRules::called))]
+    fn called(
+        &self,
+        cursor: &mut Cursor<'_>,
+        at: u32,
+        path: Expr,
+    ) -> Result<(Stmt, usize), ReadFault>
+        requires path { 1 ≤ self.now.room }
+        requires room { self.now.room + 1 < 2 ^ 64 }
+        ensures gives { Gives (tall_by stmt_tree) (R self.now.room (spec.called at (expr_tree path)) cursor.old) result cursor.new }
+        ensures low { IfOk result (λ x. x.1 ≤ self.now.room + 1) }
+    {
+        let (call, height) = self.randomize_on(cursor, path)?;
+        self.expect(cursor, Fixed::Mark(Mark::Semicolon))?;
+        Ok((Stmt::call(at, CallForm::Plain, call), height + 1))
+    }
+
+    /// The rest of a mode behind `(`.
+    #[tactic(auto, unfolding(crate::specs::StmtRules::moded))]
+    fn moded(
+        &self,
+        cursor: &mut Cursor<'_>,
+        at: u32,
+        path: Expr,
+        kind: ModeKind,
+    ) -> Result<(Stmt, usize), ReadFault>
+        requires path { 1 ≤ self.now.room }
+        requires room { self.now.room + 1 < 2 ^ 64 }
+        ensures gives { Gives (tall_by stmt_tree) (R self.now.room (spec.moded at (expr_tree path) kind) cursor.old) result cursor.new }
+        ensures low { IfOk result (λ x. x.1 ≤ self.now.room + 1) }
+    {
+        let (on, height) = expr(self.alloc, cursor, self.room, 1)?;
+        self.expect(cursor, Fixed::Mark(Mark::CloseParen))?;
+        self.expect(cursor, Fixed::Mark(Mark::Semicolon))?;
+        let path = owner(path);
+        Ok((
+            Stmt::mode(at, ModeCall { path, kind, on }),
+            height.max(1) + 1,
+        ))
+    }
+
+    /// What stands behind the path that a statement begins with.
+    #[tactic(auto, unfolding(crate::specs::StmtRules::behind_target))]
+    fn behind_target(
+        &self,
+        cursor: &mut Cursor<'_>,
+        at: u32,
+        path: Expr,
+        kind: NameKind,
+    ) -> Result<(Stmt, usize), ReadFault>
+        requires path { 1 ≤ self.now.room }
+        requires room { self.now.room + 1 < 2 ^ 64 }
+        ensures gives { Gives (tall_by stmt_tree) (R self.now.room (spec.behind_target at (expr_tree path, kind)) cursor.old) result cursor.new }
+        ensures low { IfOk result (λ x. x.1 ≤ self.now.room + 1) }
+    {
+        let Some(method) = path_method(&path, kind) else {
+            return self.assigned(cursor, at, path);
+        };
+        if !self.eat(cursor, Fixed::Mark(Mark::OpenParen))? {
+            return self.assigned(cursor, at, path);
+        }
+        match method {
+            Method::Randomize => self.called(cursor, at, path),
+            Method::Mode(mode) => self.moded(cursor, at, path, mode),
+        }
+    }
+
+    /// A statement that begins with a path.
+    #[tactic(auto, unfolding(crate::specs::StmtRules::path_stmt))]
+    pub(crate) fn path_stmt(&self, cursor: &mut Cursor<'_>) -> Result<(Stmt, usize), ReadFault>
+        requires room { self.now.room + 1 < 2 ^ 64 }
+        ensures gives { Gives (tall_by stmt_tree) (R self.now.room spec.path_stmt cursor.old) result cursor.new }
+        ensures low { IfOk result (λ x. x.1 ≤ self.now.room + 1) }
+    {
+        let at = cursor.at();
+        let (path, kind) = self.path_here(cursor)?;
+        self.behind_target(cursor, at, path, kind)
+    }
+
+    /// The same where the first name, of this number and kind, was taken.
+    #[tactic(auto, unfolding(crate::specs::StmtRules::stmt_from))]
+    pub(crate) fn stmt_from(
+        &self,
+        cursor: &mut Cursor<'_>,
+        first: u32,
+        first_kind: NameKind,
+    ) -> Result<(Stmt, usize), ReadFault>
+        requires path { 1 ≤ self.now.room }
+        requires room { self.now.room + 1 < 2 ^ 64 }
+        ensures gives { Gives (tall_by stmt_tree) (R self.now.room (spec.stmt_from (first, first_kind)) cursor.old) result cursor.new }
+        ensures low { IfOk result (λ x. x.1 ≤ self.now.room + 1) }
+    {
+        let (path, kind) = self.path_behind(cursor, first, first_kind)?;
+        self.behind_target(cursor, first, path, kind)
+    }
+}
