@@ -18,6 +18,7 @@ pub fn lex(alloc: Global, text: &[u8]) -> Result<Vec<Token>, LexFault>
     requires { length text.now ≤ 4194304 }
     ensures tokens { IfOk result (λ v. IsTokenized text.now v.items) }
     ensures spelled { IfOk result (λ v. All (λ t. (l : LexemeType) × IsTokenOf text.now t l) v.items) }
+    ensures few { IfOk result (λ v. length v.items ≤ length text.now) }
     ensures fault { IfErr result (λ e. IsFaultOf text.now e) }
 
     // Want of memory aside, a text that has tokens is answered by them, and any other by its first fault.

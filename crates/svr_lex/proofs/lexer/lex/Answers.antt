@@ -5,12 +5,13 @@ use Rattle.svr_lex.proofs.Spelled.{spelled_all}
 use Rattle.svr_lex.proofs.lexer.lex.Goals as goal
 
 pub pieces-init : goal.pieces-init
-pieces-init c = record { front = start _ _ c.new-tokens.ensures.items; place = omega arith; small = c.requires }
+pieces-init c = record { front = start _ _ c.new-tokens.ensures.items; place = omega arith; few = rw c.new-tokens.ensures.items (omega arith); small = c.requires }
 
 pub pieces-preserved-in-Gap : goal.pieces-preserved-in-Gap
 pieces-preserved-in-Gap c = record {
   front = gap_step _ _ _ _ _ _ c.pieces.invariant.front c.in-Gap.ensures;
   place = (gap_place _ _ _ _ _ c.pieces.invariant.place c.in-Gap.ensures.1).0;
+  few = (let before = c.pieces.invariant.few in omega arith);
   small = c.requires;
 }
 
@@ -18,6 +19,7 @@ pub pieces-preserved : goal.pieces-preserved
 pieces-preserved c = record {
   front = lexeme_step _ _ _ _ _ _ _ _ _ c.pieces.invariant.front c.in-Lexeme.ensures (record { kind = refl; start = refl; stop = refl }) (grind (arith, common_steps));
   place = (lexeme_place _ _ _ _ _ _ c.pieces.invariant.place c.in-Lexeme.ensures.1).0;
+  few = (let place = lexeme_place _ _ _ _ _ _ c.pieces.invariant.place c.in-Lexeme.ensures.1 in let before = c.pieces.invariant.few in grind (arith, common_steps));
   small = c.requires;
 }
 

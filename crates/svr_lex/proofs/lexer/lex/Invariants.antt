@@ -6,6 +6,7 @@ abbrev pub invariant-pieces : goal.invariant-pieces
 invariant-pieces l = record {
   front : Tokenizes 0 l.text l.tokens.items l.at l.left;
   place : l.at + length l.left ≡ length l.text;
+  few : length l.tokens.items ≤ l.at;
   small : length l.text ≤ 4194304;
 }
 
