@@ -1,0 +1,15 @@
+pub mod Parts
+pub mod SoundTops
+pub mod SoundUnit
+pub mod SoundScript
+pub mod Begins
+pub mod BeginsStmt
+pub mod CompleteTops
+pub mod CompleteUnit
+pub mod CompleteScript
+pub mod LiveTops
+pub mod LiveUnit
+pub mod Looping
+pub mod Named
+pub mod Laws
+pub mod Whole

@@ -1,0 +1,3 @@
+pub mod ScriptRules
+pub mod Found
+pub mod Parse
