@@ -1,0 +1,10 @@
+//! The values that meet constraint items over scalar properties, found by trying all (IEEE 1800-2017, 18.5).
+#![tactic(auto)]
+
+mod mention;
+#[cfg(test)]
+mod tests;
+mod trial;
+
+pub use mention::is_mentioned;
+pub use trial::solve;
