@@ -1,0 +1,10 @@
+use Rattle.std.proofs.Common.{◌≡◌, length}
+use Rattle.svr_bits.specs.Names as spec
+use Rattle.svr_bits.specs.Names.{seen}
+use Rattle.svr_bits.proofs.names.is_among.Given as goal
+
+abbrev pub invariant-loop-left : goal.invariant-loop-left
+invariant-loop-left l = spec.is_among l.name (seen l.left) ≡ spec.is_among l.name (seen l.names)
+
+abbrev pub decreases-loop-left : goal.decreases-loop-left
+decreases-loop-left l = length l.left
