@@ -1,13 +1,11 @@
 -- What the program answers and writes, by its words and the text that it reads.
-use Rattle.std.specs.Prelude.{◌≡◌, ◌≤◌, ◌<◌, ◌+◌, ◌^◌, ◌⊎◌, ℕ, List, [], ◌∷◌, length, codes, Some, None, ⊤}
+use Rattle.std.specs.Prelude.{◌≡◌, ◌≤◌, ◌<◌, ◌+◌, ◌^◌, ◌⊎◌, ℕ, List, [], ◌∷◌, length, codes, ⊤}
 use Rattle.std.specs.declared.option.Option.{Option}
 use Rattle.std.specs.Str.Parse.{digits_value}
 use Rattle.std.specs.Io.KnownBytes.{Appends, Keeps, IsAtEnd}
 use Rattle.svr_edge.specs.Known.{Takes, AppendsFront}
-use Rattle.svr_first.specs.Lexemes.{IsDigits}
-use Rattle.svr_first.specs.Form.{Form, IsScript}
-use Rattle.svrand.specs.Draw.{first_word}
-use Rattle.svrand.specs.Answer.{Solves, line}
+use Rattle.svrand.specs.Digits.{IsDigits}
+use Rattle.svrand.specs.Answer.{IsOne, IsZero, IsRefused}
 use Rattle.svrand.specs.declared.status.Status.{Status}
 use Rattle.svrand.specs.declared.status.Status.TheVariants.{AllOne, SomeZero, Usage, Refused, ReadFault, WriteFault, NoMemory}
 
@@ -37,13 +35,11 @@ prints bytes = record { printed = bytes; journal = [] }
 
 -- a run with this seed over this text ends with this status and has this to write
 abbrev pub Answers : ℕ → List ℕ → Status → Output → Type 0
-Answers seed text AllOne output =
-    (length text ≤ text_limit) × (f : Form) × (x : ℕ) × IsScript f text × Solves f (first_word seed 1) (Some x) × (output ≡ prints (line f (Some x)))
-Answers seed text SomeZero output =
-    (length text ≤ text_limit) × (f : Form) × IsScript f text × Solves f (first_word seed 1) None × (output ≡ prints (line f None))
+Answers seed text AllOne output = (length text ≤ text_limit) × (bytes : List ℕ) × IsOne seed text bytes × (output ≡ prints bytes)
+Answers seed text SomeZero output = (length text ≤ text_limit) × (bytes : List ℕ) × IsZero text bytes × (output ≡ prints bytes)
 Answers seed text Refused output =
     ((text_limit < length text) × (output ≡ prints (codes "refused 0:0 27\n")))
-    ⊎ ((length text ≤ text_limit) × ((f : Form) → IsScript f text → ⊥) × (output ≡ prints (codes "refused 0:0 28\n")))
+    ⊎ ((length text ≤ text_limit) × (bytes : List ℕ) × IsRefused text bytes × (output ≡ prints bytes))
 Answers seed text Usage output = ⊥
 Answers seed text ReadFault output = ⊥
 Answers seed text WriteFault output = ⊥

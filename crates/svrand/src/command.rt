@@ -2,7 +2,7 @@
 ghost use Rattle.std.specs.Prelude.{ℕ, map, IfSome, IfNone, string_bytes};
 ghost use Rattle.svrand.specs.Outcome.{IsCommand};
 
-use svr_first::number;
+use crate::digits::number;
 
 /// The seed of `run`, which is 0, or of `run --seed N`. None for any other words.
 ///

@@ -6,7 +6,11 @@
 
 mod answer;
 mod command;
+mod digits;
 mod draw;
+mod line;
+mod place;
+mod refusal;
 mod run;
 mod status;
 #[cfg(test)]

@@ -1,13 +1,16 @@
-use Rattle.std.proofs.Common.{sym, ap, ◌∙◌, subst, ◌<◌, ◌^◌, ℕ}
-use Rattle.svr_first.specs.Script.{script_seen}
-use Rattle.svrand.specs.Outcome.{prints}
+use Rattle.std.proofs.Common.{refl, sym, inr, subst, List}
+use Rattle.std.specs.Prelude.{All}
+use Rattle.svr_token.specs.declared.Lexeme.{Lexeme}
+use Rattle.svr_token.specs.declared.token.Token.{Token}
+use Rattle.svr_token.specs.Tokens.{IsTokenOf}
 use Rattle.svrand.proofs.answer.answer_of.Goals as goal
 
-pub returns-in_ok-line_of_zero-in-None : goal.returns-in_ok-line_of_zero-in-None
-returns-in_ok-line_of_zero-in-None c = (
-  c.requires,
-  script_seen c.in-Ok.reading.script,
-  c.in-Ok.ensures.found,
-  (λ x less meets. c.in-None.ensures.none x (subst (λ (w : ℕ). x < 2 ^ w) (sym c.in-Ok.ensures.width) less) (meets ∙ sym c.in-Ok.ensures.value)),
-  ap prints c.in_ok-line_of_zero-in-None.ensures,
-)
+pub returns-in-Err : goal.returns-in-Err
+returns-in-Err c = inr (c.requires, c.in_ok-lexical-in-Err.field-0.items, c.in_ok-lexical-in-Err.ensures, refl)
+
+pub parse-requires-clause-spelled : goal.parse-requires-clause-spelled
+parse-requires-clause-spelled c =
+    subst (λ (ts : List Token). All (λ t. (l : Lexeme) × IsTokenOf c.args.text.now t l) ts) (sym c.deref.ensures.value) c.in-Ok.ensures.spelled
+
+pub returns-in-Err-parse : goal.returns-in-Err-parse
+returns-in-Err-parse c = inr (c.requires, c.in_ok-syntactic-in-Err-parse.field-0.items, c.in_ok-syntactic-in-Err-parse.ensures, refl)
