@@ -11,14 +11,16 @@ ghost use Rattle.svr_eval.specs.Value as spec;
 
 use crate::assign::Assign;
 use crate::env::Env;
-use crate::operator::{BinaryKind, UnaryKind, binary_kind, unary_kind};
-use crate::parts::{bits, bits_from, copied, element_at, join, literal, place_of, read, truth};
+use crate::operator::{
+    BinaryKind, UnaryKind, binary_kind, fold_operator, fold_start, unary_kind,
+};
+use crate::parts::{bits, bits_from, cell_at, copied, element_at, join, literal, place_of, read, truth};
 use svr_num::Bits;
-use svr_typed::{BinOp, TBound, TExpr, TNode, TRange, UnOp};
+use svr_typed::{BinOp, Fold, TBound, TExpr, TNode, TRange, UnOp};
 
 /// The value at the width and the sign of a context, which is no narrower than the expression.
 #[cycle(value)]
-pub(crate) fn value_at(e: &TExpr, width: u8, signed: bool, a: &Assign, env: &Env) -> Bits
+pub fn value_at(e: &TExpr, width: u8, signed: bool, a: &Assign, env: &Env) -> Bits
     requires typed { IsTyped (expr_term e.now) }
     requires reads { CanRead (reading_of a.now) (length env.now) (expr_term e.now) }
     requires wide { e.now.width ≤ width }
@@ -34,9 +36,18 @@ pub(crate) fn value_at(e: &TExpr, width: u8, signed: bool, a: &Assign, env: &Env
             let at = read(value(index, a, env), index.signed);
             bits(element_at(a, *prop, at), e.width).extend(width, signed)
         }
-        TNode::Size(prop) => bits(u64::from(a.size(*prop)), 32).extend(width, signed),
+        TNode::Cell(prop, inner, first, second) => {
+            let cell = cell(*prop, *inner, first.get(), second.get(), a, env);
+            bits(cell, e.width).extend(width, signed)
+        }
+        TNode::Size(prop, inner) => {
+            bits(u64::from(a.size(*prop) / *inner), 32).extend(width, signed)
+        }
         TNode::Script(variable) => bits(a.script(*variable), e.width).extend(width, signed),
         TNode::Loop(k) => bits(u64::from(env.loop_index(*k)), 32).extend(width, signed),
+        TNode::Reduce(prop, op, body) => {
+            reduced(*prop, *op, body.get(), a, env).extend(width, signed)
+        }
         TNode::Of(_, part) => value_at(part.get(), width, signed, a, env),
         TNode::Select {
             base,
@@ -81,6 +92,38 @@ pub fn value(e: &TExpr, a: &Assign, env: &Env) -> Bits
     ensures width { result.width ≡ spec.size_of (expr_term e.now) }
 {
     value_at(e, e.width, e.signed, a, env)
+}
+
+/// The element that two indexes name.
+#[cycle(value)]
+fn cell(prop: u32, inner: u32, first: &TExpr, second: &TExpr, a: &Assign, env: &Env) -> u64
+    requires first_typed { IsTyped (expr_term first.now) }
+    requires second_typed { IsTyped (expr_term second.now) }
+    requires first_reads { CanRead (reading_of a.now) (length env.now) (expr_term first.now) }
+    requires second_reads { CanRead (reading_of a.now) (length env.now) (expr_term second.now) }
+    ensures { result ≡ spec.cell_at (reading_of a.now) prop inner
+        (spec.index_read (reading_of a.now) env.now (expr_term first.now)) (spec.index_read (reading_of a.now) env.now (expr_term second.now)) }
+{
+    let row = read(value(first, a, env), first.signed);
+    let column = read(value(second, a, env), second.signed);
+    cell_at(a, prop, inner, row, column)
+}
+
+/// The reduction of an array by its body, at the body's size.
+#[cycle(value)]
+fn reduced(prop: u32, op: Fold, body: &TExpr, a: &Assign, env: &Env) -> Bits
+    requires typed { IsTyped (expr_term body.now) }
+    requires reads { CanRead (reading_of a.now) (length env.now + 1) (expr_term body.now) }
+    requires depth { length env.now < 256 }
+    ensures value { result.value ≡ spec.reduced (reading_of a.now) env.now prop op (expr_term body.now) }
+    ensures width { result.width ≡ spec.size_of (expr_term body.now) }
+{
+    let operator = fold_operator(op);
+    let mut total = fold_start(op, body.width);
+    for i in 0..a.size(prop) {
+        total = operator.apply(total, value(body, a, &env.inner(i)), false);
+    }
+    total
 }
 
 /// `width` bits of `base` down to the bit that `last` names.
@@ -233,9 +276,11 @@ pub(crate) fn property(e: &TExpr) -> Option<u32>
         TNode::Prop(prop) => Some(*prop),
         TNode::Number { .. }
         | TNode::Element(..)
-        | TNode::Size(_)
+        | TNode::Cell(..)
+        | TNode::Size(..)
         | TNode::Script(_)
         | TNode::Loop(_)
+        | TNode::Reduce(..)
         | TNode::Of(..)
         | TNode::Select { .. }
         | TNode::Unary { .. }

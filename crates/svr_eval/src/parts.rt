@@ -74,6 +74,19 @@ pub(crate) fn element_at(a: &Assign, prop: u32, index: i128) -> u64
     }
 }
 
+/// The element of an array with rows of `inner` elements that a row and a column name, 0 where there is none.
+pub(crate) fn cell_at(a: &Assign, prop: u32, inner: u32, row: i128, column: i128) -> u64
+    requires row { row <ℤ pos (2 ^ 64) }
+    requires column { column <ℤ pos (2 ^ 64) }
+    ensures { result ≡ spec.cell_at (reading_of a.now) prop inner row column }
+{
+    if row < 0 || column < 0 || column >= i128::from(inner) {
+        0
+    } else {
+        element_at(a, prop, row * i128::from(inner) + column)
+    }
+}
+
 /// `width` bits of a vector from one of its bits on. Bits outside the vector are 0.
 pub(crate) fn bits_from(whole: Bits, from: i128, width: u8) -> Bits
     requires low { 1 ≤ width }
