@@ -64,13 +64,12 @@ pub(crate) fn place_of(number: Bits, signed: bool, low: i64) -> i128
 
 /// The element that an index names, 0 where there is none.
 pub(crate) fn element_at(a: &Assign, prop: u32, index: i128) -> u64
-    requires { index <ℤ pos (2 ^ 64) }
     ensures { result ≡ spec.element_at (reading_of a.now) prop index }
 {
     if index < 0 {
         0
     } else {
-        a.element(prop, index as u64)
+        a.element_at(prop, index as u128)
     }
 }
 
