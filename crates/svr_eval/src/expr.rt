@@ -16,7 +16,8 @@ use crate::operator::{
 };
 use crate::parts::{bits, bits_from, cell_at, copied, element_at, join, literal, place_of, read, truth};
 use svr_num::Bits;
-use svr_typed::{BinOp, Fold, TBound, TExpr, TNode, TRange, UnOp};
+use svr_operator::{BinOp, Fold, UnOp};
+use svr_typed::{TBound, TExpr, TNode, TRange};
 
 /// The value at the width and the sign of a context, which is no narrower than the expression.
 #[cycle(value)]
