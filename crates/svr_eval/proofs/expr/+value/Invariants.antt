@@ -26,7 +26,7 @@ decreases-reduced l = 8 * size-TExpr l.body.now + 3
 
 abbrev pub invariant-reduced-loop-i : goal.invariant-reduced-loop-i
 invariant-reduced-loop-i l = record {
-  value : l.total.value ≡ fold_of l.op (spec.size_of (expr_term l.body)) l.i (λ i. spec.alone (reading_of l.a) (l.env ++ i ∷ []) (expr_term l.body));
+  value : l.total.value ≡ fold_of l.fn.op (spec.size_of (expr_term l.body)) l.i (λ i. spec.alone (reading_of l.a) (l.env ++ i ∷ []) (expr_term l.body));
   width : l.total.width ≡ spec.size_of (expr_term l.body);
 }
 
