@@ -4,14 +4,14 @@ use Rattle.std.specs.List.{list_all}
 use Rattle.std.proofs.Math.Nat.{suc-mul}
 use Rattle.std.proofs.lemmas.Bool.{cond-true}
 use Rattle.svr_chain.specs.declared.clause.Lit.{Lit}
-use Rattle.svr_chain.specs.Chain.{Chain}
+use Rattle.svr_chain.specs.Views.{StepView}
 use Rattle.svr_chain.specs.declared.log.Reason.{Reason}
 use Rattle.svr_chain.specs.declared.log.Verdict.TheVariants.{Accepted, Rejected}
 use Rattle.svr_chain.specs.Clauses.{flip, has}
 use Rattle.svr_chain.specs.Log.{named, step_result, after_steps, is_denied, goal_verdict, verdict_of}
 
 -- a log with one accepted step more
-pub after_steps-push : (ss : List Chain) (ks : List (List Lit)) (n : ℕ) (s : Chain) (known : List (List Lit)) (c : List Lit)
+pub after_steps-push : (ss : List StepView) (ks : List (List Lit)) (n : ℕ) (s : StepView) (known : List (List Lit)) (c : List Lit)
     → after_steps ks n ss ≡ Ok known → step_result known s ≡ Ok c → after_steps ks n (ss ++ s ∷ []) ≡ Ok (known ++ c ∷ [])
 after_steps-push [] ks n s known c e f = last (step_result ks s) (let w : ks ≡ known = cc in ap (λ z. step_result z s) w ∙ f) (let w : ks ≡ known = cc in w)
   where
@@ -28,7 +28,7 @@ after_steps-push (x ∷ ss) ks n s known c e f = next (step_result ks x) e (λ d
     next (Err y) g h = cc
 
 -- the goal of a log that is accepted step by step
-pub accepted-goal : (ks : List (List Lit)) (assume : List Lit) (ss : List Chain) (known : List (List Lit)) (g : ℕ) (c : List Lit)
+pub accepted-goal : (ks : List (List Lit)) (assume : List Lit) (ss : List StepView) (known : List (List Lit)) (g : ℕ) (c : List Lit)
     → after_steps ks 1 ss ≡ Ok known → named known g ≡ Some c → list_all (λ x. has assume (flip x)) c ≡ true → verdict_of ks assume ss (Some g) ≡ Accepted
 accepted-goal ks assume ss known g c e m d =
     ap (λ r. elim r [ Ok z ↦ goal_verdict z (length ss + 1) assume (Some g) | Err f ↦ Rejected f.0 f.1 ]) e

@@ -3,7 +3,7 @@ use Rattle.std.specs.Prelude.{◌≡◌, ℕ, ◌+◌, ◌≤◌, true, List, []
 use Rattle.std.specs.List.{list_all}
 use Rattle.svr_chain.specs.declared.clause.Lit.{Lit}
 use Rattle.svr_chain.specs.declared.log.Verdict.TheVariants.{Accepted}
-use Rattle.svr_chain.specs.Chain.{Chain, Log}
+use Rattle.svr_chain.specs.Views.{StepView, RefutationView}
 use Rattle.svr_chain.specs.Log.{verdict_of}
 use Rattle.svr_chain.specs.Valuations.{lit_value, Meets}
 use Rattle.svr_query.specs.declared.solver.Answer.{Answer}
@@ -14,14 +14,14 @@ use Rattle.svr_query.specs.Logged.{valuation_of}
 pub record SolverView : Type 0 where
   pub vars : ℕ
   pub clauses : List (List Lit)
-  pub steps : List Chain
+  pub steps : List StepView
 
 -- the log refutes: it has a goal, and is accepted with it
-abbrev pub IsRefutation : List (List Lit) → List Lit → Log → Type 0
+abbrev pub IsRefutation : List (List Lit) → List Lit → RefutationView → Type 0
 IsRefutation ks assume log = IsSome log.goal × (verdict_of ks assume log.steps log.goal ≡ Accepted)
 
 -- the log spends the budget from place `first` on: it is accepted without a goal, and has that many steps more
-pub record SpendsBudget (ks : List (List Lit)) (budget first : ℕ) (log : Log) : Type 0 where
+pub record SpendsBudget (ks : List (List Lit)) (budget first : ℕ) (log : RefutationView) : Type 0 where
   pub none : log.goal ≡ None
   pub accepted : verdict_of ks [] log.steps None ≡ Accepted
   pub spent : first + budget ≤ length log.steps

@@ -1,5 +1,5 @@
 use Rattle.std.proofs.Common.{◌≡◌, refl, ap, sym, ◌∙◌, ◌+◌, ◌≤◌, [], List, length, take, None, arith}
-use Rattle.svr_chain.specs.Chain.{Chain}
+use Rattle.svr_chain.specs.Views.{StepView}
 use Rattle.svr_chain.specs.Clauses.{AreWithin}
 use Rattle.svr_chain.specs.Log.{verdict_of}
 use Rattle.svr_chain.specs.Valuations.{Meets}
@@ -32,15 +32,15 @@ pub returns-in-Spent-clause-answer : goal.returns-in-Spent-clause-answer
 returns-in-Spent-clause-answer c =
     let s = c.self.inside in
     let t = c.run.new.search in
-    let ys : List Chain = c.run.new.steps.items in
+    let ys : List StepView = c.run.new.steps.items in
     let l : IsLogged s.cnf.clauses.items ys t = rw c.as_slice.ensures.value at c.run.ensures.logged in
     let m : c.in_ok-steps-in-Spent.steps.items ≡ ys = c.in_ok-steps-in-Spent.ensures ∙ c.as_slice-in-Spent.ensures.value in
     let n : c.len-first.result ≡ length s.steps.items = c.len-first.ensures ∙ s.steps.ok.0 in
     let b : length s.steps.items + c.args.budget ≤ length ys = c.in_ok-found.ensures.spent c.in-Spent.is in
     let e : c.args.self.now.steps ≡ s.steps.items = ap (λ z. z.steps) (sym c.self.view_is) in
     let a : verdict_of s.cnf.clauses.items [] ys None ≡ Accepted = concludes-none s.cnf.clauses.items ys t l in (
-      record { none = refl; accepted = rw (← c.self.view_is, m) a; spent = omega (arith, ap (λ (z : List Chain). length z) m, n, b) },
-      n ∙ sym (ap (λ (z : List Chain). length z) e),
-      ap (λ (z : List Chain). take c.len-first.result z) m ∙ (ap (λ i. take i ys) n ∙ (c.run.ensures.begins ∙ sym e)),
+      record { none = refl; accepted = rw (← c.self.view_is, m) a; spent = omega (arith, ap (λ (z : List StepView). length z) m, n, b) },
+      n ∙ sym (ap (λ (z : List StepView). length z) e),
+      ap (λ (z : List StepView). take c.len-first.result z) m ∙ (ap (λ i. take i ys) n ∙ (c.run.ensures.begins ∙ sym e)),
       tt,
     )
