@@ -1,7 +1,7 @@
 -- Logs, one step at a time
-use Rattle.std.proofs.Common.{◌≡◌, ℕ, suc, arith, ◌+◌, ◌-◌, ◌*◌, ◌<◌, true, List, [], ◌∷◌, ◌++◌, length, ap, ◌∙◌, Some, Result, Ok, Err}
+use Rattle.std.proofs.Common.{◌≡◌, ℕ, suc, arith, ◌+◌, ◌-◌, ◌*◌, ◌<◌, ◌≤◌, true, List, [], ◌∷◌, ◌++◌, length, ap, ◌∙◌, Some, Result, Ok, Err}
 use Rattle.std.specs.List.{list_all}
-use Rattle.std.proofs.Math.Nat.{suc-mul}
+use Rattle.std.proofs.Math.Nat.{suc-mul, mul-le-mul_right}
 use Rattle.std.proofs.lemmas.Bool.{cond-true}
 use Rattle.svr_chain.specs.declared.clause.Lit.{Lit}
 use Rattle.svr_chain.specs.Views.{StepView}
@@ -41,3 +41,20 @@ one_step_more budget made vars len rest h =
     let e : budget - made ≡ suc n = omega (arith, h) in
     let m : suc n * (vars + 1) ≡ n * (vars + 1) + (vars + 1) = suc-mul n (vars + 1) in
     rw (e, m) (omega arith)
+
+-- one node less leaves less to do, however short the trail is then
+pub one_node_less : (u w vars v len rest : ℕ) → u < w → vars ≡ v → u * (vars + 1) + (vars - len) < w * (v + 1) + rest
+one_node_less u w vars v len rest h e =
+    let n : ℕ = w - 1 in
+    let p : w ≡ suc n = omega (arith, h) in
+    let q : u ≤ n = omega (arith, h) in
+    let m : suc n * (v + 1) ≡ n * (v + 1) + (v + 1) = suc-mul n (v + 1) in
+    let o : u * (v + 1) ≤ n * (v + 1) = mul-le-mul_right (v + 1) q in
+    rw (e, p, m) (omega (arith, o))
+
+-- one decision more leaves fewer open variables
+pub one_decision_more : (u w vars v len before : ℕ) → u ≡ w → vars ≡ v → before < len → len ≤ vars → u * (vars + 1) + (vars - len) < w * (v + 1) + (v - before)
+one_decision_more u w vars v len before e f h o =
+    let b : len ≤ v = omega (arith, o, f) in
+    let m : u * (vars + 1) ≡ w * (v + 1) = ap (λ z. z * (vars + 1)) e ∙ ap (λ z. w * (z + 1)) f in
+    omega (arith, m, f, h, b)
