@@ -27,13 +27,24 @@ fn clause_value(values: &[bool], lits: &[Lit]) -> bool
     lits.iter().any(|lit| lit_value(values, *lit))
 }
 
+fn are_clauses_true(values: &[bool], clauses: &[Clause]) -> bool
+    ensures { result ≡ list_all (clause_value (valuation_of values.now)) clauses.now }
+{
+    clauses
+        .iter()
+        .all(|clause| clause_value(values, clause.lits()))
+}
+
+fn are_lits_true(values: &[bool], lits: &[Lit]) -> bool
+    ensures { result ≡ list_all (lit_value (valuation_of values.now)) lits.now }
+{
+    lits.iter().all(|lit| lit_value(values, *lit))
+}
+
 /// Whether each clause and each assumed literal is true.
 pub fn is_model(clauses: &[Clause], assume: &[Lit], values: &[bool]) -> bool
     ensures { result ≡ (list_all (clause_value (valuation_of values.now)) clauses.now
         && list_all (lit_value (valuation_of values.now)) assume.now) }
 {
-    clauses
-        .iter()
-        .all(|clause| clause_value(values, clause.lits()))
-        && assume.iter().all(|lit| lit_value(values, *lit))
+    are_clauses_true(values, clauses) && are_lits_true(values, assume)
 }

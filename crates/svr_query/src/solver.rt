@@ -176,12 +176,7 @@ impl Solver {
     }
 
     /// Whether a valuation meets the clauses and the assumed literals. The preferred values are the answer where they do. A question that took `budget` steps without an answer is given up, unless the bits are so few that it is answered by all their values.
-    pub fn ask(
-        &mut self,
-        assume: &[Lit],
-        prefer: &[bool],
-        budget: u64,
-    ) -> Result<Answer, NoMemory>
+    pub fn ask(&mut self, assume: &[Lit], prefer: &[bool], budget: u64) -> Result<Answer, NoMemory>
         requires within { AreWithin self.old.vars assume.now }
         requires apart { is_tautology assume.now ≡ false }
         requires prefer { length prefer.now ≡ self.old.vars }
