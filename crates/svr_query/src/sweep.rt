@@ -19,17 +19,17 @@ fn power(exponent: usize) -> u64
     1 << exponent
 }
 
-/// The steps to keep for a sweep over this many bits, where that is at most half of the budget.
+/// The steps to keep for a sweep over this many bits, where twice as many and two are within the budget.
 pub fn kept_steps(bits: usize, budget: u64) -> Option<u64>
-    ensures some { IfSome result (λ k. (k ≡ 2 ^ bits) × (k ≤ budget)) }
+    ensures some { IfSome result (λ k. (k + 1 ≡ 2 ^ bits) × (k ≤ budget)) }
     ensures none { IfNone result (budget < 2 ^ (bits + 1)) }
 {
     if bits >= 63 {
         return None;
     }
-    let steps = power(bits);
-    if steps <= budget / 2 {
-        Some(steps)
+    let nodes = power(bits);
+    if nodes <= budget / 2 {
+        Some(nodes - 1)
     } else {
         None
     }

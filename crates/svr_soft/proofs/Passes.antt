@@ -18,6 +18,9 @@ use Rattle.svr_chain.proofs.ListsLemmas.{among-push, among-last}
 use Rattle.svr_query.specs.Answer.{IsRefutation}
 use Rattle.svr_soft.specs.Kept.{HaveValuation, lit_at, with_kept, assumed_at, AreRanks, IsKept, rank_of, AreDropped, ranks_to}
 
+pub lit_at-next : (soft : List Lit) (i : ℕ) → lit_at soft (i + 1) ≡ get_or soft i (record { var = 0; neg = false })
+lit_at-next soft i = let n : i + 1 - 1 ≡ i = omega arith in ap (λ z. get_or soft z (record { var = 0; neg = false })) n
+
 -- literals among others that are apart are apart
 pub apart-within : (c d : List Lit) → is_within c d ≡ true → is_tautology d ≡ false → is_tautology c ≡ false
 apart-within c d w t =

@@ -3,8 +3,8 @@ use Rattle.std.specs.Prelude.{◌≡◌, ℕ, ◌-◌, ◌<◌, ◌≤◌, Bool,
 use Rattle.svr_chain.specs.declared.clause.Lit.{Lit}
 use Rattle.svr_chain.specs.Valuations.{HaveNoValuation}
 use Rattle.svr_query.specs.Answer.{SolverView, IsModel, IsRefutation, SpendsBudget, MaySpend}
-use Rattle.svr_soft.specs.declared.pass.PassEnd.{PassEnd}
-use Rattle.svr_soft.specs.declared.pass.PassEnd.TheVariants.{Done, BaseRefuted, Spent}
+use Rattle.svr_soft.specs.declared.priority.PassEnd.{PassEnd}
+use Rattle.svr_soft.specs.declared.priority.PassEnd.TheVariants.{Done, BaseRefuted, Spent}
 use Rattle.svr_soft.specs.Kept.{HaveValuation, with_kept, IsKept, AreDropped}
 
 -- the question of that rank comes next, that of the base alone where there is none

@@ -4,7 +4,9 @@
 #![tactic(auto)]
 
 mod memory;
-mod pass;
+mod priority;
+#[cfg(test)]
+mod tests;
 
 pub use memory::NoMemory;
-pub use pass::{PassEnd, pass};
+pub use priority::{PassEnd, pass};
