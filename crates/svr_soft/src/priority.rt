@@ -122,6 +122,7 @@ fn pass_in_turn(
         rank += 1;
         let stands = assumed.len();
         assumed.push(*lit)?;
+        // Each arm goes on by itself, so that the prover sees no join.
         match solver.ask(assumed.as_slice(), prefer, budget)? {
             Answer::Satisfied(found) => {
                 values = found;

@@ -172,16 +172,16 @@ fn keeps_each_second_of_forty(rt: HostRuntime) -> Result<(), Fail> {
     let mut clauses = Vec::new(alloc);
     let mut soft = Vec::new(alloc);
     let mut expected = Vec::new(alloc);
-    for pair in 0..20 {
-        clauses.push((-2 * pair - 1, -2 * pair - 2))?;
-        soft.push(2 * pair + 1)?;
-        soft.push(2 * pair + 2)?;
-    }
-    for pair in 0..20 {
+    for pair in 0..20u32 {
+        let odd = i64::from(2 * pair + 1);
+        let even = i64::from(2 * pair + 2);
+        clauses.push((odd.wrapping_neg(), even.wrapping_neg()))?;
+        soft.push(odd)?;
+        soft.push(even)?;
         expected.push(2 * pair + 1)?;
     }
     expected.push(0)?;
-    for pair in 0..20 {
+    for pair in 0..20u32 {
         expected.push(2 * pair + 2)?;
     }
     let cnf = Cnf {
