@@ -1,5 +1,5 @@
 -- The trail of the sweep: a clause over negated decisions denies a node that no clause denied
-use Rattle.std.proofs.Common.{◌≡◌, ℕ, zero, suc, ◌+◌, ◌-◌, ◌<◌, ◌≤◌, Bool, true, false, ◌&&◌, ◌||◌, not, List, [], ◌∷◌, ◌++◌, length, refl, ap, sym, ◌∙◌, subst, arith, Option, Some, None, Ok, get_or, take, ◌⊎◌, inl, inr}
+use Rattle.std.proofs.Common.{◌≡◌, ℕ, ◌+◌, ◌-◌, ◌<◌, ◌≤◌, Bool, true, false, ◌&&◌, ◌||◌, not, List, [], ◌∷◌, ◌++◌, length, refl, ap, sym, ◌∙◌, subst, arith, Option, Some, None, get_or, take, ◌⊎◌, inl, inr}
 use Rattle.std.specs.Prelude.{Contains, IsSome}
 use Rattle.std.specs.Option.{option_map}
 use Rattle.std.specs.List.{list_any}
@@ -7,20 +7,19 @@ use Rattle.std.proofs.lemmas.Bool.{or_cases, or_left, or_right, cases_lt, cases_
 use Rattle.std.proofs.lemmas.List.{get_or_default, take_more}
 use Rattle.std.proofs.lemmas.List.Elements.{All-head, All-tail}
 use Rattle.svr_chain.specs.declared.clause.Lit.{Lit}
-use Rattle.svr_chain.specs.Clauses.{same_sign, same_lit, flip, has, IsWithin, AreWithin}
-use Rattle.svr_chain.specs.Views.{StepView}
-use Rattle.svr_chain.specs.Log.{are_denied, step_result}
+use Rattle.svr_chain.specs.Clauses.{same_sign, same_lit, flip, has}
+use Rattle.svr_chain.specs.Log.{are_denied}
 use Rattle.svr_chain.proofs.Same.{all-has, all-from, lit-self}
 use Rattle.svr_cdcl.specs.declared.trail.Entry.{Entry}
-use Rattle.svr_cdcl.specs.Trail.{sign_at, value_in, is_false, is_falsified, is_false_but, Each, IsQuiet, IsClosed, IsGrown}
+use Rattle.svr_cdcl.specs.Trail.{sign_at, value_in, is_false, is_false_but, Each, IsQuiet, IsClosed, IsGrown}
 use Rattle.svr_cdcl.specs.Search.{SearchView, IsSearch}
-use Rattle.svr_cdcl.specs.Learned.{Derives, IsLowest, is_decided, is_kept, is_explained}
+use Rattle.svr_cdcl.specs.Learned.{IsLowest, is_decided, is_kept, is_explained}
 use Rattle.svr_chain.proofs.Sound.{same_lit-true}
 use Rattle.svr_query.specs.Logged.{is_true, IsAsked}
 use Rattle.svr_query.specs.Sweep.{bit_lit, is_refuted, is_begun, open_nodes, IsNextBit, IsSwept}
 use Rattle.svr_query.proofs.Asked.{decided-grown}
 use Rattle.svr_query.proofs.Nodes.{node, node-cases, node-first, node-bit, nodes-less, refuted-new}
-use Rattle.svr_chain.proofs.ClauseLemmas.{All-has, flip-flip}
+use Rattle.svr_chain.proofs.ClauseLemmas.{flip-flip}
 use Rattle.svr_cdcl.proofs.Trails.{decided-index, none_at_0, sign_at-of_take, sign_at-push_same, sign_at-take}
 
 pub swept-grown : (n : ℕ) (assume : List Lit) (ks : List (List Lit)) (old new : List Entry) → Each (IsSwept n assume) old → IsGrown ks old new → Each (IsSwept n assume) new

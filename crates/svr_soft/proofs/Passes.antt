@@ -1,17 +1,15 @@
 -- The pass, one soft literal at a time
-use Rattle.std.proofs.Common.{◌≡◌, ℕ, suc, zero, ◌+◌, ◌-◌, ◌<◌, ◌≤◌, Bool, true, false, ◌&&◌, ◌||◌, nat_eq, nat_lt, cond, List, [], ◌∷◌, ◌++◌, length, map, filter, refl, ap, sym, ◌∙◌, subst, arith, Option, Some, None, get_or, take, All, inl, inr}
-use Rattle.std.specs.List.{list_any, list_all}
-use Rattle.std.specs.List.Sorted.{IsStrictlyIncreasing}
-use Rattle.std.proofs.lemmas.Bool.{and_from, and_parts, or_left, or_right, or_cases, or_parts, both_ways, false_from_ne_true, false≢true, cases_lt, cases_eq, cases_Bool, cond-true, cond-false, eqb-true, ne_eqb}
-use Rattle.std.proofs.lemmas.List.{take-take, take_more, length_push, length-take-le, get_or_append_left, get_or_at, get_or_default}
-use Rattle.std.proofs.lemmas.List.Elements.{All-head, All-tail, All-cons, All-push, filter-append}
+use Rattle.std.proofs.Common.{◌≡◌, ℕ, suc, zero, ◌+◌, ◌-◌, ◌<◌, ◌≤◌, Bool, true, false, ◌&&◌, ◌||◌, nat_eq, nat_lt, List, [], ◌∷◌, ◌++◌, length, map, filter, refl, ap, sym, ◌∙◌, subst, arith, get_or, take, All, inl, inr}
+use Rattle.std.specs.List.{list_all}
+use Rattle.std.proofs.lemmas.Bool.{and_from, or_left, or_right, both_ways, false_from_ne_true, false≢true, cases_lt, cond-true, cond-false, ne_eqb}
+use Rattle.std.proofs.lemmas.List.{take-take, length_push, get_or_append_left, get_or_at}
+use Rattle.std.proofs.lemmas.List.Elements.{All-head, All-tail, All-push, filter-append}
 use Rattle.std.proofs.lemmas.List.Folds.{list_any-append, list_all-append}
 use Rattle.svr_chain.specs.declared.clause.Lit.{Lit}
 use Rattle.svr_chain.specs.Views.{RefutationView}
 use Rattle.svr_chain.specs.Clauses.{same_lit, flip, has, is_within, is_tautology, IsWithin, AreWithin}
 use Rattle.svr_chain.specs.Lists.{is_among}
 use Rattle.svr_chain.specs.Valuations.{lit_value, Meets, HaveNoValuation}
-use Rattle.svr_chain.proofs.Sound.{no_valuation-from_accepted}
 use Rattle.svr_chain.proofs.Same.{all-has, all-from, any-has, any-some, has-at}
 use Rattle.svr_chain.proofs.ClauseLemmas.{All-has}
 use Rattle.svr_chain.proofs.ListsLemmas.{among-push, among-last}

@@ -1,7 +1,7 @@
 use Rattle.std.proofs.Common.{◌≡◌, ap, sym, subst, ◌∙◌, ℕ, ◌++◌, List, [], true, length}
 use Rattle.std.specs.List.{list_all}
 use Rattle.svr_chain.specs.declared.clause.Lit.{Lit}
-use Rattle.svr_chain.specs.Valuations.{lit_value, Meets}
+use Rattle.svr_chain.specs.Valuations.{lit_value}
 use Rattle.svr_query.specs.declared.solver.Answer.TheVariants.{Satisfied}
 use Rattle.svr_query.specs.Logged.{valuation_of}
 use Rattle.svr_query.specs.Answer.{IsAnswer, IsModel}

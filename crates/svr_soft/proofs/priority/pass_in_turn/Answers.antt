@@ -1,17 +1,15 @@
-use Rattle.std.proofs.Common.{◌≡◌, refl, subst, ap, sym, ◌∙◌, ℕ, ◌+◌, ◌<◌, ◌≤◌, ◌++◌, ◌∷◌, [], List, Some, true, false, length, take, get_or, arith}
+use Rattle.std.proofs.Common.{◌≡◌, refl, subst, ap, sym, ◌∙◌, ℕ, ◌+◌, ◌<◌, ◌≤◌, ◌++◌, ◌∷◌, [], List, true, false, length, take, get_or, arith}
 use Rattle.std.specs.List.{list_all}
 use Rattle.std.proofs.lemmas.List.{take_all, take_at}
 use Rattle.svr_chain.specs.declared.clause.Lit.{Lit}
 use Rattle.svr_chain.specs.Clauses.{is_within, is_tautology, AreWithin}
 use Rattle.svr_chain.specs.Valuations.{lit_value, Meets}
 use Rattle.svr_chain.proofs.Sound.{no_valuation-from_accepted}
-use Rattle.svr_query.specs.declared.solver.Answer.TheVariants.{Satisfied, Refuted, Spent}
+use Rattle.svr_query.specs.declared.solver.Answer.TheVariants.{Satisfied, Refuted}
 use Rattle.svr_query.specs.Logged.{valuation_of}
-use Rattle.svr_query.specs.Answer.{IsAnswer, IsModel, IsRefutation}
-use Rattle.svr_query.proofs.Spends.{may_spend-same}
-use Rattle.svr_soft.specs.Kept.{HaveValuation, lit_at, with_kept, IsKept, AreDropped}
-use Rattle.svr_soft.specs.End.{IsReached}
-use Rattle.svr_soft.proofs.Passes.{lit_at-next, apart-within, within-among, within-left, within-next, kept-none, dropped-none, kept-push, kept-same, dropped-same, dropped-push, with_kept-push, begins-then, longer-from}
+use Rattle.svr_query.specs.Answer.{IsAnswer, IsRefutation}
+use Rattle.svr_soft.specs.Kept.{HaveValuation, lit_at, with_kept}
+use Rattle.svr_soft.proofs.Passes.{lit_at-next, apart-within, within-among, within-left, within-next, kept-none, dropped-none, kept-push, kept-same, dropped-same, dropped-push, with_kept-push, begins-then}
 use Rattle.svr_soft.proofs.priority.pass_in_turn.Goals as goal
 
 pub ask-requires-clause-within : goal.ask-requires-clause-within
