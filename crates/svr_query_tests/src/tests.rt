@@ -143,10 +143,7 @@ fn tried(
 ) -> Result<Told, NoMemory> {
     for row in 0..rows {
         let values = values_at(alloc, count, gates, row)?;
-        if wishes
-            .iter()
-            .all(|wish| values.get(wish.signal).copied() == Some(wish.value))
-        {
+        if wishes.iter().all(|wish| values.get(wish.signal).copied() == Some(wish.value)) {
             return Ok(Told::Satisfied);
         }
     }
