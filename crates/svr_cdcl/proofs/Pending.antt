@@ -15,8 +15,8 @@ use Rattle.svr_chain.proofs.Indexed.{get-push}
 use Rattle.svr_cdcl.specs.declared.trail.Entry.{Entry}
 use Rattle.svr_cdcl.specs.Trail.{sign_at, value_in, is_false, IsQuiet, IsClosed, IsUnit}
 use Rattle.svr_cdcl.specs.Pending.{touches, IsPending, IsListed}
-use Rattle.svr_cdcl.proofs.TableLemmas.{or_else, sign_at-push, sign_at-push_same, sign_at-open}
 use Rattle.svr_cdcl.proofs.Quiet.{quiet-tautology, quiet-true}
+use Rattle.svr_cdcl.proofs.Trails.{or_else, sign_at-open, sign_at-push, sign_at-push_same}
 
 module _ (es : List Entry) (e : Entry) where
   false-back : (x : Lit) → is_false (value_in (es ++ e ∷ []) x) ≡ true → (is_false (value_in es x) ≡ true) ⊎ (same_lit x (flip e.lit) ≡ true)

@@ -9,7 +9,7 @@ use Rattle.svr_chain.specs.Clauses.{IsWithin, AreWithin}
 use Rattle.svr_chain.specs.Valuations.{Meets, AgreeUpTo}
 use Rattle.svr_chain.proofs.ValuationLemmas.{Meets-append, Meets-append_parts, Meets-agree}
 use Rattle.svr_gate.specs.Numbers.{number}
-use Rattle.svr_gate.specs.Settled.{Forces, AreSettled}
+use Rattle.svr_chain.specs.Settled.{Forces, AreSettled}
 use Rattle.svr_gate.specs.Circuit.{Circuit, IsCircuit, IsAlwaysTrue, Extends, Tells}
 use Rattle.svr_gate.specs.Gates.{table_value, rows_upto, row_clause}
 use Rattle.svr_gate.proofs.NumberLemmas.{number-lt, number-agree, lit_value-positive}

@@ -10,7 +10,7 @@ use Rattle.svr_chain.specs.Clauses.{IsWithin, AreWithin, flip}
 use Rattle.svr_chain.specs.Valuations.{lit_value, clause_value, Meets}
 use Rattle.svr_chain.proofs.ValuationLemmas.{Meets-nil, Meets-append, Meets-append_parts}
 use Rattle.svr_gate.specs.Numbers.{bit, number}
-use Rattle.svr_gate.specs.Settled.{Forces}
+use Rattle.svr_chain.specs.Settled.{Forces}
 use Rattle.svr_gate.specs.Gates.{table_value, row_inputs, row_clause, rows_upto}
 use Rattle.svr_gate.proofs.NumberLemmas.{number-cons, lit_value-flip}
 use Rattle.svr_gate.proofs.RowLemmas.{rows_upto-zero, rows_upto-suc}

@@ -5,7 +5,7 @@ use Rattle.svr_chain.specs.declared.clause.Lit.{Lit}
 use Rattle.svr_chain.specs.Clauses.{IsWithin, AreWithin, same_sign}
 use Rattle.svr_chain.specs.Valuations.{lit_value, Meets, AgreeUpTo}
 use Rattle.svr_gate.specs.Numbers.{number}
-use Rattle.svr_gate.specs.Settled.{AreSettled}
+use Rattle.svr_chain.specs.Settled.{AreSettled}
 
 -- inputs, the variables 1 to inputs; gates, the variables after them to vars; their clauses; and a literal that is always true, where there is one yet
 pub record Circuit : Type 0 where

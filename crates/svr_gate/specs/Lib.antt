@@ -1,4 +1,3 @@
 pub mod Numbers
-pub mod Settled
 pub mod Circuit
 pub mod Gates

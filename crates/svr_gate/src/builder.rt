@@ -5,7 +5,7 @@ ghost use Rattle.std.specs.List.{All};
 ghost use Rattle.svr_chain.specs.Clauses.{flip, IsWithin, AreWithin};
 ghost use Rattle.svr_chain.specs.Valuations.{lit_value, Meets};
 ghost use Rattle.svr_gate.specs.Numbers.{number};
-ghost use Rattle.svr_gate.specs.Settled.{AreSettled};
+ghost use Rattle.svr_chain.specs.Settled.{AreSettled};
 ghost use Rattle.svr_gate.specs.Circuit.{Extends, Tells, known_of};
 ghost use Rattle.svr_gate.specs.Gates.{table_value, is_unknown};
 

@@ -1,5 +1,5 @@
 -- Decided literals are assumed ones, up to the first trail that makes all of these true
-use Rattle.std.proofs.Common.{◌≡◌, ℕ, ◌<◌, ◌≤◌, Bool, true, false, ◌||◌, not, List, [], length, refl, ap, sym, ◌∙◌, subst, arith, Option, Some, None, get_or, take, inl, inr}
+use Rattle.std.proofs.Common.{◌≡◌, ℕ, ◌<◌, ◌≤◌, Bool, true, false, ◌||◌, not, List, [], length, refl, ap, sym, ◌∙◌, subst, arith, Option, Some, None, get_or, take, ◌⊎◌, inl, inr}
 use Rattle.std.specs.Option.{option_map}
 use Rattle.std.proofs.lemmas.Bool.{or_cases, cases_lt, both_ways, false≢true, false_from_ne_true}
 use Rattle.std.proofs.lemmas.List.{take-take, get_or-take, length-take-le, take_all}
@@ -11,32 +11,36 @@ use Rattle.svr_cdcl.specs.declared.trail.Entry.{Entry}
 use Rattle.svr_cdcl.specs.Trail.{sign_at, value_in, Each, IsGrown}
 use Rattle.svr_cdcl.specs.Search.{SearchView, IsSearch}
 use Rattle.svr_cdcl.specs.Learned.{is_decided, is_kept, is_explained, reason_in}
-use Rattle.svr_cdcl.proofs.Levels.{not_none}
-use Rattle.svr_cdcl.proofs.Quiet.{all-weaker}
-use Rattle.svr_cdcl.proofs.Chains.{flip-flip}
-use Rattle.svr_cdcl.proofs.TableLemmas.{sign_at-take}
-use Rattle.svr_cdcl.proofs.Reasons.{decided-from_none}
-use Rattle.svr_cdcl.proofs.Decided.{none_at_0, decided-index}
 use Rattle.svr_query.specs.Logged.{is_true, are_true, IsAsked}
 use Rattle.svr_chain.specs.Log.{are_denied}
+use Rattle.svr_chain.proofs.ClauseLemmas.{all-weaker, flip-flip}
+use Rattle.svr_cdcl.proofs.Trails.{decided-from_none, decided-index, none_at_0, not_none, sign_at-take}
 
--- a propagation decides nothing
-pub asked-grown : (assume : List Lit) (ks : List (List Lit)) (old new : List Entry) → Each (IsAsked assume) old → IsGrown ks old new → Each (IsAsked assume) new
-asked-grown assume ks old new a g i e h =
+-- what holds of decided entries alone holds as a propagation goes on
+pub decided-grown : (Q : List Entry → Entry → Type 0) (ks : List (List Lit)) (old new : List Entry) → Each (λ es e. e.reason ≡ None → Q es e) old → IsGrown ks old new
+    → Each (λ es e. e.reason ≡ None → Q es e) new
+decided-grown Q ks old new a g i e h =
     elim (cases_lt i (length old)) [
       | inl q ↦
           let t : take i old ≡ take i new = ap (take i) (sym g.same) ∙ take-take i (length old) new (omega arith) in
           let at : get_or old i e ≡ get_or new i e = ap (λ z. get_or z i e) (sym g.same) ∙ get_or-take (length old) new i e q in
-          subst (λ z. IsAsked assume z (get_or new i e)) t (subst (λ z. IsAsked assume (take i old) z) at (a i e q))
+          subst (λ z. (get_or new i e).reason ≡ None → Q z (get_or new i e)) t (subst (λ z. z.reason ≡ None → Q (take i old) z) at (a i e q))
       | inr q ↦ λ n. absurd (not_none (get_or new i e).reason (g.forced i e q h) n)
     ]
 
-pub asked-take : (assume : List Lit) (n : ℕ) (es : List Entry) → n ≤ length es → Each (IsAsked assume) es → Each (IsAsked assume) (take n es)
-asked-take assume n es o a i e h =
+pub each-take : (P : List Entry → Entry → Type 0) (n : ℕ) (es : List Entry) → n ≤ length es → Each P es → Each P (take n es)
+each-take P n es o a i e h =
     let l : length (take n es) ≡ n = length-take-le n es o in
     let t : take i es ≡ take i (take n es) = sym (take-take i n es (omega arith)) in
     let at : get_or es i e ≡ get_or (take n es) i e = sym (get_or-take n es i e (omega arith)) in
-    subst (λ z. IsAsked assume z (get_or (take n es) i e)) t (subst (λ z. IsAsked assume (take i es) z) at (a i e (omega arith)))
+    subst (λ z. P z (get_or (take n es) i e)) t (subst (λ z. P (take i es) z) at (a i e (omega arith)))
+
+-- a propagation decides nothing
+pub asked-grown : (assume : List Lit) (ks : List (List Lit)) (old new : List Entry) → Each (IsAsked assume) old → IsGrown ks old new → Each (IsAsked assume) new
+asked-grown assume ks old new a g = decided-grown (λ es e. (has assume e.lit ≡ true) ⊎ (are_true es assume ≡ true)) ks old new a g
+
+pub asked-take : (assume : List Lit) (n : ℕ) (es : List Entry) → n ≤ length es → Each (IsAsked assume) es → Each (IsAsked assume) (take n es)
+asked-take assume n es o a = each-take (IsAsked assume) n es o a
 
 pub asked-start : (assume : List Lit) (s : SearchView) → IsSearch s → s.ends ≡ [] → Each (IsAsked assume) s.entries
 asked-start assume s k z i e h n = absurd (none_at_0 s k z i e h n)

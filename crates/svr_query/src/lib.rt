@@ -1,11 +1,14 @@
 //! Questions to the search: satisfiability under assumptions, within a budget of steps.
 #![tactic(auto)]
 
+mod limit;
 mod memory;
+mod model;
 mod order;
 mod restarts;
 mod run;
 mod solver;
+mod sweep;
 
 pub use memory::NoMemory;
 pub use solver::{Answer, Solver};

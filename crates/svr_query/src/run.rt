@@ -31,7 +31,7 @@ pub enum Found {
 }
 
 /// The first assumed literal that is not true.
-fn next_assumed(search: &Search, assume: &[Lit]) -> Assumed
+pub fn next_assumed(search: &Search, assume: &[Lit]) -> Assumed
     ensures { IsAssumed search.now.entries assume.now result }
 {
     for lit in assume {
@@ -44,12 +44,12 @@ fn next_assumed(search: &Search, assume: &[Lit]) -> Assumed
     Assumed::Done
 }
 
-/// The open variable with the lowest number, with its preferred sign.
-fn first_open(search: &Search, prefer: &[bool]) -> Option<Lit>
-    requires { length prefer.now ≡ search.now.vars }
+/// The open variable with the lowest number, with its preferred sign, if one of those with preferences is open.
+pub fn first_open(search: &Search, prefer: &[bool]) -> Option<Lit>
     ensures open { IfSome result (λ l. value_in search.now.entries l ≡ None) }
-    ensures within { IfSome result (IsWithin search.now.vars) }
-    ensures none { IfNone result ((v : ℕ) → v < search.now.vars → IsSome (sign_at search.now.entries (v + 1))) }
+    ensures within { IfSome result (IsWithin (length prefer.now)) }
+    ensures lower { IfSome result (λ l. (v : ℕ) → v + 1 < l.var → IsSome (sign_at search.now.entries (v + 1))) }
+    ensures none { IfNone result ((v : ℕ) → v < length prefer.now → IsSome (sign_at search.now.entries (v + 1))) }
 {
     let mut var = 0;
     for wish in prefer {
@@ -76,7 +76,7 @@ fn next_open(search: &Search, prefer: &[bool], order: &mut Order) -> Option<Lit>
 }
 
 /// Takes back all decisions.
-fn restart(search: &mut Search)
+pub fn restart(search: &mut Search)
     ensures vars { search.new.vars ≡ search.old.vars }
     ensures clauses { search.new.clauses ≡ search.old.clauses }
     ensures ends { search.new.ends ≡ [] }
@@ -87,7 +87,7 @@ fn restart(search: &mut Search)
     search.backjump(0);
 }
 
-/// Decides, propagates and learns until there is an answer, or `budget` steps were made.
+/// Decides, propagates and learns until there is an answer, or just `budget` steps were made.
 pub fn run(
     alloc: Global,
     cnf: &[Clause],
@@ -104,6 +104,7 @@ pub fn run(
     ensures vars { search.new.vars ≡ search.old.vars }
     ensures logged { IsLogged cnf.now steps.new.items search.new }
     ensures begins { take (length steps.old.items) steps.new.items ≡ steps.old.items }
+    ensures few { length steps.new.items ≤ length steps.old.items + budget }
     ensures found { IfOk result (IsFound search.new assume.now) }
     ensures spent { IfOk result (λ r. r ≡ Found.Spent
         → length steps.old.items + budget ≤ length steps.new.items) }
@@ -117,12 +118,12 @@ pub fn run(
         match search.propagate() {
             Some(number) => {
                 if search.level() == 0 {
-                    let explained = search.explain(alloc, number, None)?;
+                    let explained = search.explain(number, None)?;
                     return Ok(Found::Refuted(explained));
                 }
                 order.save(search.entries());
-                let learned = search.analyse(alloc, number)?;
-                order.bump(alloc, &learned)?;
+                let learned = search.analyse(number)?;
+                order.bump(&learned)?;
                 search.backjump(learned.level);
                 steps.reserve(1)?;
                 search.learn(learned.lits)?;
@@ -142,7 +143,7 @@ pub fn run(
                     let Some(number) = search.reason(denied) else {
                         unreachable!()
                     };
-                    let explained = search.explain(alloc, number, Some(denied))?;
+                    let explained = search.explain(number, Some(denied))?;
                     return Ok(Found::Refuted(explained));
                 }
                 Assumed::Done => match next_open(search, prefer, &mut order) {

@@ -1,15 +1,19 @@
 // The solver: one question after the other to one search.
 
-ghost use Rattle.std.specs.Prelude.{◌≡◌, ◌≤◌, ◌<◌, ◌+◌, ℕ, true, false, [], IfOk, IfSome, IfNone, length, take};
+ghost use Rattle.std.specs.Prelude.{◌≡◌, ◌≤◌, ◌<◌, ◌+◌, ℕ, true, false, [], None, Some, IfOk, IfSome, IfNone, length, take};
 ghost use Rattle.std.specs.List.{All};
 ghost use Rattle.svr_chain.specs.Clauses.{AreWithin, is_tautology, is_within};
 ghost use Rattle.svr_chain.specs.Log.{are_denied, is_repeated};
 ghost use Rattle.svr_cdcl.specs.Learned.{Derives};
-ghost use Rattle.svr_query.specs.Answer.{IsAnswer, IsRefutation};
-ghost use Rattle.svr_query.specs.Logged.{AreValues, IsLogged, IsWithinOne};
+ghost use Rattle.svr_chain.specs.Settled.{AreSettled};
+ghost use Rattle.svr_query.specs.Answer.{AreGiven, IsAnswer, IsModel, IsRefutation};
+ghost use Rattle.svr_query.specs.Bits.{AreFirst};
+ghost use Rattle.svr_query.specs.Logged.{AreValues, AreWished, IsLogged, IsWithinOne};
 
+use crate::limit::{Limit, search_within};
 use crate::memory::NoMemory;
-use crate::run::{Found, run};
+use crate::model::is_model;
+use crate::run::Found;
 use std::alloc::Global;
 use std::marker::Model;
 use svr_cdcl::{Learned, Search};
@@ -32,6 +36,8 @@ pub struct Solver {
     cnf: Cnf,
     search: Search,
     steps: Vec<Step>,
+    /// How many of the first variables settle the others, where that is known.
+    bits: Option<usize>,
 }
 
 impl Model for Solver {
@@ -78,6 +84,7 @@ fn values_of(alloc: Global, search: &Search, prefer: &[bool]) -> Result<Vec<bool
     requires { length prefer.now ≡ search.now.vars }
     ensures len { IfOk result (λ v. length v.items ≡ search.now.vars) }
     ensures values { IfOk result (λ v. AreValues search.now.entries v.items search.now.vars) }
+    ensures open { IfOk result (λ v. AreWished search.now.entries prefer.now v.items search.now.vars) }
 {
     let mut var = 0;
     let mut values = Vec::new(alloc);
@@ -126,21 +133,73 @@ impl Solver {
     /// A solver over the clauses of a formula, with no step derived yet.
     pub fn new(alloc: Global, cnf: Cnf) -> Result<Solver, NoMemory>
         requires { All (AreWithin cnf.vars) cnf.clauses.items }
-        ensures { IfOk result (λ s.
-            s ≡ record { vars = cnf.vars; clauses = cnf.clauses.items; steps = [] }) }
+        ensures vars { IfOk result (λ s. s.vars ≡ cnf.vars) }
+        ensures clauses { IfOk result (λ s. s.clauses ≡ cnf.clauses.items) }
+        ensures steps { IfOk result (λ s. s.steps ≡ []) }
+        ensures bits { IfOk result (λ s. s.bits ≡ None) }
     {
         let search = Search::new(alloc, &cnf)?;
         Ok(Solver {
             cnf,
             search,
             steps: Vec::new(alloc),
+            bits: None,
         })
     }
 
-    /// Whether a valuation meets the clauses and the assumed literals. Decisions begin with the preferred values. A question that took `budget` steps without an answer is given up.
-    pub fn ask(
+    /// A solver over the clauses of a formula all of whose variables are settled by the bits, which are the first ones. It gives no question up whose budget is at least 2 ^ (n + 1), n being the number of bits.
+    pub fn with_bits(alloc: Global, cnf: Cnf, bits: Vec<Lit>) -> Result<Solver, NoMemory>
+        requires clauses { All (AreWithin cnf.vars) cnf.clauses.items }
+        requires within { AreWithin cnf.vars bits.items }
+        requires first { AreFirst bits.items }
+        requires settled { AreSettled (length bits.items) cnf.vars cnf.clauses.items }
+        ensures vars { IfOk result (λ s. s.vars ≡ cnf.vars) }
+        ensures clauses { IfOk result (λ s. s.clauses ≡ cnf.clauses.items) }
+        ensures steps { IfOk result (λ s. s.steps ≡ []) }
+        ensures bits { IfOk result (λ s. s.bits ≡ Some (length bits.items)) }
+    {
+        let search = Search::new(alloc, &cnf)?;
+        Ok(Solver {
+            cnf,
+            search,
+            steps: Vec::new(alloc),
+            bits: Some(bits.len()),
+        })
+    }
+
+    /// The formula, given back.
+    pub fn into_cnf(self) -> Cnf
+        ensures vars { result.vars ≡ self.vars }
+        ensures clauses { result.clauses.items ≡ self.clauses }
+    {
+        self.cnf
+    }
+
+    /// Whether a valuation meets the clauses and the assumed literals. The preferred values are the answer where they do. A question that took `budget` steps without an answer is given up, unless the bits are so few that it is answered by all their values.
+    pub fn ask(&mut self, assume: &[Lit], prefer: &[bool], budget: u64) -> Result<Answer, NoMemory>
+        requires within { AreWithin self.old.vars assume.now }
+        requires apart { is_tautology assume.now ≡ false }
+        requires prefer { length prefer.now ≡ self.old.vars }
+        requires budget { 1 ≤ budget }
+        ensures vars { self.new.vars ≡ self.old.vars }
+        ensures clauses { self.new.clauses ≡ self.old.clauses }
+        ensures bits { self.new.bits ≡ self.old.bits }
+        ensures begins { take (length self.old.steps) self.new.steps ≡ self.old.steps }
+        ensures few { length self.new.steps ≤ length self.old.steps + budget }
+        ensures answer { IfOk result (IsAnswer self.old assume.now budget) }
+        ensures preferred { IsModel self.old.clauses assume.now prefer.now → IfOk result (AreGiven prefer.now) }
+    {
+        if is_model(self.cnf.clauses.as_slice(), assume, prefer) {
+            let alloc = *self.steps.allocator();
+            let values = Vec::from_slice(alloc, prefer)?;
+            return Ok(Answer::Satisfied(values));
+        }
+        self.find_answer(assume, prefer, budget)
+    }
+
+    /// The answer of the search.
+    fn find_answer(
         &mut self,
-        alloc: Global,
         assume: &[Lit],
         prefer: &[bool],
         budget: u64,
@@ -148,21 +207,27 @@ impl Solver {
         requires within { AreWithin self.old.vars assume.now }
         requires apart { is_tautology assume.now ≡ false }
         requires prefer { length prefer.now ≡ self.old.vars }
-        requires budget { 1 ≤ budget }
         ensures vars { self.new.vars ≡ self.old.vars }
         ensures clauses { self.new.clauses ≡ self.old.clauses }
+        ensures bits { self.new.bits ≡ self.old.bits }
         ensures begins { take (length self.old.steps) self.new.steps ≡ self.old.steps }
+        ensures few { length self.new.steps ≤ length self.old.steps + budget }
         ensures answer { IfOk result (IsAnswer self.old assume.now budget) }
     {
+        let alloc = *self.steps.allocator();
         let first = self.steps.len() as u64;
-        let found = run(
+        let limit = Limit {
+            steps: budget,
+            bits: self.bits,
+        };
+        let found = search_within(
             alloc,
             self.cnf.clauses.as_slice(),
             &mut self.search,
             &mut self.steps,
             assume,
             prefer,
-            budget,
+            limit,
         )?;
         let _ = self.search.level();
         match found {
@@ -221,17 +286,31 @@ mod tests {
         Solver::new(alloc, Cnf { vars: 2, clauses })
     }
 
+    /// A solver with both variables as bits.
+    fn solver_with_bits(alloc: Global, pairs: &[(bool, bool)]) -> Result<Solver, NoMemory>
+        ensures { IfOk result (λ s. s.vars ≡ 2) }
+    {
+        let mut clauses = Vec::new(alloc);
+        for (first_neg, second_neg) in pairs {
+            clauses.push(pair(alloc, *first_neg, *second_neg)?)?;
+        }
+        let one = Lit { var: 1, neg: false };
+        let two = Lit { var: 2, neg: false };
+        let bits = Vec::from_slice(alloc, &[one, two])?;
+        Solver::with_bits(alloc, Cnf { vars: 2, clauses }, bits)
+    }
+
     #[test]
     fn asks_under_assumptions(rt: HostRuntime) -> Result<(), Fail> {
         let alloc = rt.alloc();
         let mut solver = solver(alloc, &[(true, false)])?;
         let one = Lit { var: 1, neg: false };
         let not_two = Lit { var: 2, neg: true };
-        match solver.ask(alloc, &[one], &[false, false], 10)? {
+        match solver.ask(&[one], &[false, false], 10)? {
             Answer::Satisfied(values) => assert_eq!(rt; values.as_slice(), [true, true].as_slice()),
             Answer::Refuted(_) | Answer::Spent { .. } => assert!(rt; false, "1 is possible"),
         }
-        match solver.ask(alloc, &[one, not_two], &[false, false], 10)? {
+        match solver.ask(&[one, not_two], &[false, false], 10)? {
             Answer::Refuted(log) => {
                 assert_eq!(rt; log.steps.len(), 0);
                 assert_eq!(rt; log.goal, Some(1));
@@ -248,14 +327,32 @@ mod tests {
         let alloc = rt.alloc();
         let pairs = [(false, false), (false, true), (true, false), (true, true)];
         let mut solver = solver(alloc, &pairs)?;
-        match solver.ask(alloc, &[], &[false, false], 1)? {
+        match solver.ask(&[], &[false, false], 1)? {
             Answer::Spent { log, first } => {
                 assert_eq!(rt; first, 0);
                 assert_eq!(rt; log.steps.len(), 1);
             }
             Answer::Satisfied(_) | Answer::Refuted(_) => assert!(rt; false, "one step is too few"),
         }
-        match solver.ask(alloc, &[], &[false, false], 10)? {
+        match solver.ask(&[], &[false, false], 10)? {
+            Answer::Refuted(log) => {
+                let verdict = check(alloc, &solver.cnf, &[], &log)?;
+                assert_eq!(rt; verdict, Verdict::Accepted);
+            }
+            Answer::Satisfied(_) | Answer::Spent { .. } => assert!(rt;
+                false,
+                "no pair is possible"
+            ),
+        }
+        Ok(())
+    }
+
+    #[test]
+    fn answers_where_a_sweep_fits(rt: HostRuntime) -> Result<(), Fail> {
+        let alloc = rt.alloc();
+        let pairs = [(false, false), (false, true), (true, false), (true, true)];
+        let mut solver = solver_with_bits(alloc, &pairs)?;
+        match solver.ask(&[], &[false, false], 8)? {
             Answer::Refuted(log) => {
                 let verdict = check(alloc, &solver.cnf, &[], &log)?;
                 assert_eq!(rt; verdict, Verdict::Accepted);

@@ -1,6 +1,6 @@
 use Rattle.std.proofs.Common.{subst}
 use Rattle.svr_gate.specs.Circuit.{Circuit}
-use Rattle.svr_gate.specs.Settled.{AreSettled}
+use Rattle.svr_chain.specs.Settled.{AreSettled}
 use Rattle.svr_gate.proofs.builder.Builder.finish.Goals as goal
 
 pub returns-clause-settled : goal.returns-clause-settled
