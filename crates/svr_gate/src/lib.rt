@@ -7,7 +7,9 @@
 #![tactic(auto)]
 
 mod builder;
+mod cover;
 mod fold;
+mod gate;
 mod memory;
 mod row;
 mod tables;
