@@ -2,3 +2,11 @@ pub mod NumberLemmas
 pub mod Circuits
 pub mod Vectors
 pub mod TableLemmas
+pub mod BitLemmas
+pub mod CoverLemmas
+pub mod GateLemmas
+pub mod FreshLemmas
+pub mod OpenLemmas
+pub mod FoldLemmas
+pub mod OrderLemmas
+pub mod SharedLemmas

@@ -23,6 +23,11 @@ pub record Circuit : Type 0 where
 abbrev pub literal_of : List (Gate × Lit) → Gate → Option Lit
 literal_of gates g = lookup ((eq-value).it g) gates
 
+-- what a literal always is, given one that is always true
+abbrev pub known_of : Option Lit → Lit → Option Bool
+known_of None l = None
+known_of (Some one) l = if one.var == l.var then Some (same_sign one.neg l.neg) else None
+
 -- the literal is this test of the valuation, wherever that meets the clauses
 pub record Tells (c : Circuit) (l : Lit) (f : (ℕ → Bool) → Bool) : Type 0 where
   pub within : IsWithin c.vars l
@@ -34,19 +39,15 @@ pub record GivesNumber (c : Circuit) (ls : List Lit) (width : ℕ) (f : (ℕ →
   pub len : length ls ≡ width
   pub value : (a : ℕ → Bool) → Meets a c.clauses → number a ls ≡ f a
 
--- whatever meets the new clauses meets the old ones, and every valuation that meets the old ones extends to one that meets the new ones; what was known and shared stays so
+-- whatever meets the new clauses meets the old ones, and every valuation that meets the old ones extends to one that meets the new ones; what is known of the old variables and what is shared stays
 pub record Extends (old new : Circuit) : Type 0 where
   pub inputs : new.inputs ≡ old.inputs
   pub vars : old.vars ≤ new.vars
   pub keeps : (a : ℕ → Bool) → Meets a new.clauses → Meets a old.clauses
   pub extends : (a : ℕ → Bool) → Meets a old.clauses → (b : ℕ → Bool) × AgreeUpTo old.vars a b × Meets b new.clauses
   pub one : (l : Lit) → old.one ≡ Some l → new.one ≡ Some l
+  pub known : (l : Lit) → IsWithin old.vars l → known_of new.one l ≡ known_of old.one l
   pub gates : (g : Gate) (l : Lit) → literal_of old.gates g ≡ Some l → literal_of new.gates g ≡ Some l
-
--- what a literal always is, given one that is always true
-abbrev pub known_of : Option Lit → Lit → Option Bool
-known_of None l = None
-known_of (Some one) l = if one.var == l.var then Some (same_sign one.neg l.neg) else None
 
 abbrev pub IsAlwaysTrue : Circuit → Option Lit → Type 0
 IsAlwaysTrue c None = ⊤

@@ -1,20 +1,21 @@
 //! A circuit under construction.
 
-ghost use Rattle.std.specs.Prelude.{◌≡◌, ◌==◌, ◌^◌, ℕ, Bool, ◌+◌, ◌≤◌, ◌<◌, length, filter, [], false, true, if◌then◌else◌, IfOk, OnOk, MatchOption, Ok, None, Some, slice_index_or, ⊤};
+ghost use Rattle.std.specs.Prelude.{◌≡◌, ◌==◌, ◌^◌, ℕ, Bool, ◌+◌, ◌≤◌, ◌<◌, length, [], false, true, if◌then◌else◌, IfOk, OnOk, MatchOption, Ok, None, Some, slice_index_or, ⊤};
 ghost use Rattle.std.specs.List.{All};
 ghost use Rattle.svr_chain.specs.Clauses.{flip, IsWithin, AreWithin};
 ghost use Rattle.svr_chain.specs.Settled.{AreSettled};
 ghost use Rattle.svr_chain.specs.Valuations.{lit_value, Meets};
 ghost use Rattle.svr_gate.specs.Numbers.{number};
 ghost use Rattle.svr_gate.specs.Gates.{table_value};
-ghost use Rattle.svr_gate.specs.Keys.{inputs_of, places_of, no_input, gate_value, in_order};
+ghost use Rattle.svr_gate.specs.Keys.{inputs_of, no_input, gate_value, in_order};
 ghost use Rattle.svr_gate.specs.Covers.{clause_count};
 ghost use Rattle.svr_gate.specs.Folding.{copied, IsConstant, IsProper};
 ghost use Rattle.svr_gate.specs.Circuit.{Extends, Tells, known_of, literal_of};
-ghost use Rattle.svr_gate.specs.Answers.{open_inputs, full_row, open_rows, open_gate, HasLiteral, Answers, HasOneValue, IsInput, Adds};
+ghost use Rattle.svr_gate.specs.Answers.{open_gate, HasLiteral, Answers, HasOneValue, IsInput, Adds};
 
 use crate::fold::{GateKind, kind_of};
-use crate::gate::{Gate, NO_INPUT};
+use crate::gate::Gate;
+use crate::known::{known_of, open_gate};
 use crate::memory::NoMemory;
 use crate::row::clauses;
 use crate::table;
@@ -86,7 +87,7 @@ impl Builder {
         // Any other gate.
         ensures adds { let gate = open_gate self.old.one table ins.entry in IsProper gate → literal_of self.old.gates (in_order gate) ≡ None → OnOk result (Adds self.old self.new (clause_count gate.count gate.table)) }
     {
-        let gate = self.open_gate(table, &ins);
+        let gate = open_gate(self.one, table, &ins);
         self.literal(gate)
     }
 
@@ -107,10 +108,7 @@ impl Builder {
         ensures known { result ≡ known_of self.now.one lit }
         ensures value { MatchOption result ⊤ (λ v. Tells self.now lit (λ _. v)) }
     {
-        match self.one {
-            Some(one) if one.var == lit.var => Some(one.neg == lit.neg),
-            _ => None,
-        }
+        known_of(self.one, lit)
     }
 
     /// The variables and the clauses.
@@ -123,77 +121,6 @@ impl Builder {
         Cnf {
             vars: self.vars,
             clauses: self.clauses,
-        }
-    }
-
-    /// The inputs that are not known, and how many they are.
-    fn open_inputs(&self, ins: &[Lit]) -> ([Lit; 4], usize)
-        requires few { length ins.now ≤ 4 }
-        requires within { AreWithin self.now.vars ins.now }
-        ensures places { result.0 ≡ places_of (open_inputs self.now.one ins.now) }
-        ensures count { result.1 ≡ length (open_inputs self.now.one ins.now) }
-    {
-        let mut places = [NO_INPUT; 4];
-        let mut count = 0;
-        for lit in ins {
-            if self.known(*lit).is_none() {
-                places[count] = *lit;
-                count += 1;
-            }
-        }
-        (places, count)
-    }
-
-    /// The row of all inputs in which those that are not known read as `row`.
-    fn full_row(&self, ins: &[Lit], row: u16) -> u16
-        requires few { length ins.now ≤ 4 }
-        requires within { AreWithin self.now.vars ins.now }
-        ensures row { result ≡ full_row self.now.one ins.now row }
-        ensures below { result < 2 ^ length ins.now }
-    {
-        let mut full = 0;
-        let mut weight = 1;
-        let mut left = row;
-        for lit in ins {
-            let value = match self.known(*lit) {
-                Some(value) => value as u16,
-                None => {
-                    let value = left % 2;
-                    left /= 2;
-                    value
-                }
-            };
-            full += weight * value;
-            weight *= 2;
-        }
-        full
-    }
-
-    /// The table over the `count` inputs that are not known.
-    fn open_table(&self, table: u16, ins: &[Lit], count: usize) -> u16
-        requires few { length ins.now ≤ 4 }
-        requires within { AreWithin self.now.vars ins.now }
-        requires few_open { count ≤ 4 }
-        ensures { result ≡ open_rows table self.now.one ins.now (2 ^ count) }
-    {
-        let mut open = 0;
-        for row in 0..1u16 << count {
-            open += ((table >> self.full_row(ins, row)) % 2) << row;
-        }
-        open
-    }
-
-    /// The gate over the inputs that are not known.
-    fn open_gate(&self, table: u16, ins: &[Lit]) -> Gate
-        requires few { length ins.now ≤ 4 }
-        requires within { AreWithin self.now.vars ins.now }
-        ensures { result ≡ open_gate self.now.one table ins.now }
-    {
-        let (places, count) = self.open_inputs(ins);
-        Gate {
-            count,
-            table: self.open_table(table, ins, count),
-            places,
         }
     }
 
@@ -252,12 +179,14 @@ impl Builder {
         ensures again { (l : Lit) → literal_of self.old.gates gate ≡ Some l → (result ≡ Ok l) × (self.new ≡ self.old) }
         ensures adds { literal_of self.old.gates gate ≡ None → OnOk result (Adds self.old self.new (clause_count gate.count gate.table)) }
     {
-        if let Some(lit) = self.gates.get(&gate).copied() {
-            return Ok(lit);
+        match self.gates.get(&gate).copied() {
+            Some(lit) => Ok(lit),
+            None => {
+                let made = self.fresh_gate(gate.table, gate.inputs())?;
+                self.gates.insert(gate, made)?;
+                Ok(made)
+            }
         }
-        let lit = self.fresh_gate(gate.table, gate.inputs())?;
-        self.gates.insert(gate, lit)?;
-        Ok(lit)
     }
 
     /// A gate of its own: a fresh variable, and the clauses of the table.

@@ -10,6 +10,7 @@ mod builder;
 mod cover;
 mod fold;
 mod gate;
+mod known;
 mod memory;
 mod row;
 mod tables;

@@ -1,6 +1,6 @@
 //! The clauses of one gate, each for some rows of its table.
 
-ghost use Rattle.std.specs.Prelude.{◌≡◌, ◌==◌, ◌≤◌, ◌<◌, ◌%◌, ◌^◌, length, map, if◌then◌else◌, IfOk};
+ghost use Rattle.std.specs.Prelude.{◌≡◌, ◌==◌, ◌≤◌, ◌<◌, ◌%◌, ◌^◌, All, length, map, if◌then◌else◌, IfOk};
 ghost use Rattle.svr_chain.specs.Clauses.{flip};
 ghost use Rattle.svr_gate.specs.Covers.{cube_clause, rows_upto, clause_count, Defines};
 
