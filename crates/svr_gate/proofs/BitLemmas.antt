@@ -64,6 +64,6 @@ row_sum t b r h k w =
     let e : (b * 2 ^ r) % 65536 ≡ b * 2 ^ r = omega arith in
     (e, omega (arith, e, p, q))
 
--- the distance between a row and the one with its bits at j and behind it exchanged, as the code computes it
+-- the distance between a row and the one with its bits at j and behind it with_order_at, as the code computes it
 pub row_step : (j : ℕ) → j < 3 → ((1 * 2 ^ j) % 2 ^ 32 ≡ 2 ^ j) × (2 ^ j ≤ 4)
 row_step j h = (one_shl j 32 (omega arith), pow_mono {i = j} {j = 2} (omega arith))

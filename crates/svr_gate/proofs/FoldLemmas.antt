@@ -13,7 +13,7 @@ use Rattle.svr_gate.specs.declared.gate.Gate.{Gate}
 use Rattle.svr_gate.specs.Numbers.{bit, number}
 use Rattle.svr_gate.specs.Gates.{table_value, copy_of}
 use Rattle.svr_gate.specs.Keys.{inputs_of, no_input, gate_value, in_order}
-use Rattle.svr_gate.specs.Folding.{copied, IsConstant, IsCopy, IsProper}
+use Rattle.svr_gate.specs.Folding.{copy_lit, IsConstant, IsCopy, IsProper}
 use Rattle.svr_gate.specs.Circuit.{Circuit, known_of, literal_of}
 use Rattle.svr_gate.specs.Answers.{is_unknown, open_inputs, row_with, full_row, open_rows, open_gate, HasLiteral, Answers, IsOpenRow, HasOneValue, IsInput}
 use Rattle.svr_gate.proofs.NumberLemmas.{number-lt, number_bit, bit_test, bit-le, lit_value-flip}
@@ -32,13 +32,13 @@ constant_told g few four v t a = sym (t (number a (inputs_of g)) (row_in g few f
 input_bit : (a : ℕ → Bool) (ins : List Lit) (j : ℕ) → j < length ins → lit_value a (get_or ins j no_input) ≡ eqb (bit_at (number a ins) j) 1
 input_bit a ins j h = sym (bit_test (lit_value a (get_or ins j no_input))) ∙ ap (λ m. eqb m 1) (sym (number_bit a ins j no_input h))
 
-pub copied_value : (a : ℕ → Bool) (same : Bool) (l : Lit) → lit_value a (copied same l) ≡ copy_of same (lit_value a l)
-copied_value a true l = refl
-copied_value a false l = lit_value-flip a l
+pub copy_lit-value : (a : ℕ → Bool) (same : Bool) (l : Lit) → lit_value a (copy_lit same l) ≡ copy_of same (lit_value a l)
+copy_lit-value a true l = refl
+copy_lit-value a false l = lit_value-flip a l
 
-pub copy_told : (g : Gate) → g.count ≤ 4 → length g.places ≡ 4 → (j : ℕ) (same : Bool) → IsCopy g j same → (a : ℕ → Bool) → lit_value a (copied same (get_or (inputs_of g) j no_input)) ≡ gate_value g a
+pub copy_told : (g : Gate) → g.count ≤ 4 → length g.places ≡ 4 → (j : ℕ) (same : Bool) → IsCopy g j same → (a : ℕ → Bool) → lit_value a (copy_lit same (get_or (inputs_of g) j no_input)) ≡ gate_value g a
 copy_told g few four j same t a =
-    copied_value a same (get_or (inputs_of g) j no_input)
+    copy_lit-value a same (get_or (inputs_of g) j no_input)
     ∙ ap (copy_of same) (input_bit a (inputs_of g) j (omega (arith, t.0, length-inputs_of g few four)))
     ∙ sym (t.1 (number a (inputs_of g)) (row_in g few four a))
 
@@ -78,24 +78,24 @@ copy_copy g j i s t h k =
 
 -- what the builder has for a gate that is folded, and for one that is not
 module _ (c : Circuit) (g : Gate) (l : Lit) (has : HasLiteral c g l) where
-  pub constant_has : (v : Bool) → IsConstant g v → (o : Lit) × ((c.one ≡ Some o) × (l ≡ copied v o))
+  pub constant_has : (v : Bool) → IsConstant g v → (o : Lit) × ((c.one ≡ Some o) × (l ≡ copy_lit v o))
   constant_has v h =
       elim has [
-        | inl k ↦ (k.1.1.0, (k.1.1.1.0, k.1.1.1.1 ∙ ap (λ b. copied b k.1.1.0) (constant_constant g k.0 v k.1.0 h)))
+        | inl k ↦ (k.1.1.0, (k.1.1.1.0, k.1.1.1.1 ∙ ap (λ b. copy_lit b k.1.1.0) (constant_constant g k.0 v k.1.0 h)))
         | inr r ↦ elim r [
             | inl k ↦ absurd (constant_copy g v k.0 k.1.0 h k.1.1.0)
             | inr k ↦ absurd (k.0.constant v h)
           ]
       ]
 
-  pub copy_has : (j : ℕ) (same : Bool) → IsCopy g j same → l ≡ copied same (get_or (inputs_of g) j no_input)
+  pub copy_has : (j : ℕ) (same : Bool) → IsCopy g j same → l ≡ copy_lit same (get_or (inputs_of g) j no_input)
   copy_has j same h =
       elim has [
         | inl k ↦ absurd (constant_copy g k.0 j same k.1.0 h)
         | inr r ↦ elim r [
             | inl k ↦
                 let p = copy_copy g k.0 j k.1.0 same k.1.1.0 h in
-                k.1.1.1 ∙ ap (λ b. copied b (get_or (inputs_of g) k.0 no_input)) p.1 ∙ ap (λ i. copied same (get_or (inputs_of g) i no_input)) p.0
+                k.1.1.1 ∙ ap (λ b. copy_lit b (get_or (inputs_of g) k.0 no_input)) p.1 ∙ ap (λ i. copy_lit same (get_or (inputs_of g) i no_input)) p.0
             | inr k ↦ absurd (k.0.copy j same h)
           ]
       ]
@@ -189,9 +189,9 @@ copy_open one t ins j same h =
       ),
     )
 
-pub copied_within : (n : ℕ) (same : Bool) (l : Lit) → IsWithin n l → IsWithin n (copied same l)
-copied_within n true l w = w
-copied_within n false l w = w
+pub copy_lit_within : (n : ℕ) (same : Bool) (l : Lit) → IsWithin n l → IsWithin n (copy_lit same l)
+copy_lit_within n true l w = w
+copy_lit_within n false l w = w
 
 -- what the builder answers
 pub Answers-from : (c : Circuit) (t : ℕ) (ins : List Lit) (l : Lit) → HasLiteral c (open_gate c.one t ins) l → Answers c t ins l
@@ -202,12 +202,12 @@ pub Answers-to : (c : Circuit) (t : ℕ) (ins : List Lit) (l : Lit) → Answers 
 unfolding Answers
 Answers-to c t ins l h = h
 
-pub known_copied : (v : Bool) (o : Lit) → known_of (Some o) (copied v o) ≡ Some v
-known_copied true o = cond-true (eqb o.var o.var) (Some (same_sign o.neg o.neg)) None (eq-eqb o.var o.var refl) ∙ ap (λ b. Some b) (signs o.neg) where
+pub known_copy_lit : (v : Bool) (o : Lit) → known_of (Some o) (copy_lit v o) ≡ Some v
+known_copy_lit true o = cond-true (eqb o.var o.var) (Some (same_sign o.neg o.neg)) None (eq-eqb o.var o.var refl) ∙ ap (λ b. Some b) (signs o.neg) where
   signs : (n : Bool) → same_sign n n ≡ true
   signs true = refl
   signs false = refl
-known_copied false o = cond-true (eqb o.var o.var) (Some (same_sign o.neg (not o.neg))) None (eq-eqb o.var o.var refl) ∙ ap (λ b. Some b) (signs o.neg) where
+known_copy_lit false o = cond-true (eqb o.var o.var) (Some (same_sign o.neg (not o.neg))) None (eq-eqb o.var o.var refl) ∙ ap (λ b. Some b) (signs o.neg) where
   signs : (n : Bool) → same_sign n (not n) ≡ false
   signs true = refl
   signs false = refl

@@ -15,7 +15,7 @@ use Rattle.svr_chain.specs.Valuations.{lit_value}
 use Rattle.svr_gate.specs.declared.gate.Gate.{Gate}
 use Rattle.svr_gate.specs.Numbers.{bit, number}
 use Rattle.svr_gate.specs.Gates.{table_value}
-use Rattle.svr_gate.specs.Keys.{inputs_of, no_input, gate_value, all_below, tells_apart, is_symmetric_at, is_to_exchange, exchanged, in_order}
+use Rattle.svr_gate.specs.Keys.{inputs_of, no_input, gate_value, all_below, tells_apart, is_symmetric_at, is_to_exchange, with_order_at, in_order}
 use Rattle.svr_gate.proofs.NumberLemmas.{number-cons, number-lt, bit-le}
 use Rattle.svr_gate.proofs.BitLemmas.{all_below-at}
 
@@ -118,17 +118,17 @@ pub is_symmetric_at-test : (g : Gate) (j : ℕ) → is_symmetric_at g j ≡ all_
 unfolding is_symmetric_at
 is_symmetric_at-test g j = refl
 
-pub exchanged-cases : (j : ℕ) (g : Gate) → exchanged j g ≡ cond (is_to_exchange j g) (record g { places = swap g.places j (j + 1) }) g
-unfolding exchanged
-exchanged-cases j g = refl
+pub with_order_at-cases : (j : ℕ) (g : Gate) → with_order_at j g ≡ cond (is_to_exchange j g) (record g { places = swap g.places j (j + 1) }) g
+unfolding with_order_at
+with_order_at-cases j g = refl
 
 swap-exchange : (ps : List Lit) (j : ℕ) → suc j < length ps → swap ps j (j + 1) ≡ exchange j ps
 swap-exchange ps j h =
     sym (swap_is ps j (j + 1) no_input (omega arith) (omega arith)) ∙ ap (λ k. slice_set (slice_set ps j (get_or ps k no_input)) k (get_or ps j no_input)) (add-one j)
 
-pub exchanged_is_reordered : (j : ℕ) (g : Gate) → g.count ≤ 4 → length g.places ≡ 4 → IsReordered g (exchanged j g)
-exchanged_is_reordered j g few four =
-    rw exchanged-cases
+pub with_order_at_is_reordered : (j : ℕ) (g : Gate) → g.count ≤ 4 → length g.places ≡ 4 → IsReordered g (with_order_at j g)
+with_order_at_is_reordered j g few four =
+    rw with_order_at-cases
     (⊎_elim
     (λ (e : is_to_exchange j g ≡ true).
     let p = and_parts (nat_lt (j + 1) g.count) (nat_lt (get_or g.places (j + 1) no_input).var (get_or g.places j no_input).var && is_symmetric_at g j) e in
@@ -156,11 +156,11 @@ exchanged_is_reordered j g few four =
 
 pub in_order_is_reordered : (g : Gate) → g.count ≤ 4 → length g.places ≡ 4 → IsReordered g (in_order g)
 in_order_is_reordered g few four = next 0 _ (next 1 _ (next 0 _ (next 2 _ (next 1 _ (next 0 g (reordered_refl g)))))) where
-  next : (j : ℕ) (h : Gate) → IsReordered g h → IsReordered g (exchanged j h)
-  next j h r = reordered_trans r (exchanged_is_reordered j h (omega (arith, r.count)) (r.four ∙ four))
+  next : (j : ℕ) (h : Gate) → IsReordered g h → IsReordered g (with_order_at j h)
+  next j h r = reordered_trans r (with_order_at_is_reordered j h (omega (arith, r.count)) (r.four ∙ four))
 
-pub exchanged-count : (j : ℕ) (g : Gate) → (exchanged j g).count ≡ g.count
-exchanged-count j g = ap (λ (h : Gate). h.count) (exchanged-cases j g) ∙ either (is_to_exchange j g) where
+pub with_order_at-count : (j : ℕ) (g : Gate) → (with_order_at j g).count ≡ g.count
+with_order_at-count j g = ap (λ (h : Gate). h.count) (with_order_at-cases j g) ∙ either (is_to_exchange j g) where
   either : (b : Bool) → (cond b (record g { places = swap g.places j (j + 1) }) g).count ≡ g.count
   either true = refl
   either false = refl

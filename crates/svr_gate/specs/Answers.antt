@@ -6,7 +6,7 @@ use Rattle.svr_gate.specs.declared.gate.Gate.{Gate}
 use Rattle.svr_gate.specs.Numbers.{bit}
 use Rattle.svr_gate.specs.Gates.{table_value, copy_of}
 use Rattle.svr_gate.specs.Keys.{inputs_of, places_of, no_input, in_order}
-use Rattle.svr_gate.specs.Folding.{copied, IsConstant, IsCopy, IsProper}
+use Rattle.svr_gate.specs.Folding.{copy_lit, IsConstant, IsCopy, IsProper}
 use Rattle.svr_gate.specs.Circuit.{Circuit, known_of, literal_of}
 
 abbrev pub is_unknown : Option Bool → Bool
@@ -40,8 +40,8 @@ open_gate one table ins =
 -- the gate has this literal: it is a constant or an input, or it is shared
 abbrev pub HasLiteral : Circuit → Gate → Lit → Type 0
 HasLiteral c g l =
-    ((v : Bool) × (IsConstant g v × ((o : Lit) × ((c.one ≡ Some o) × (l ≡ copied v o)))))
-    ⊎ (((j : ℕ) × ((same : Bool) × (IsCopy g j same × (l ≡ copied same (slice_index_or (inputs_of g) j no_input)))))
+    ((v : Bool) × (IsConstant g v × ((o : Lit) × ((c.one ≡ Some o) × (l ≡ copy_lit v o)))))
+    ⊎ (((j : ℕ) × ((same : Bool) × (IsCopy g j same × (l ≡ copy_lit same (slice_index_or (inputs_of g) j no_input)))))
     ⊎ (IsProper g × (literal_of c.gates (in_order g) ≡ Some l)))
 
 -- the builder has this literal for a table over these inputs

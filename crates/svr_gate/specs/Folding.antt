@@ -9,8 +9,8 @@ use Rattle.svr_gate.specs.Gates.{table_value, copy_of}
 use Rattle.svr_gate.specs.Keys.{inputs_of, no_input}
 
 -- the literal, or its negation
-abbrev pub copied : Bool → Lit → Lit
-copied same l = if same then l else flip l
+abbrev pub copy_lit : Bool → Lit → Lit
+copy_lit same l = if same then l else flip l
 
 -- each row of the gate has this value
 abbrev pub IsConstant : Gate → Bool → Type 0
@@ -27,5 +27,5 @@ pub record IsProper (g : Gate) : Type 0 where
 
 abbrev pub IsOfKind : Gate → GateKind → Type 0
 IsOfKind g (Constant v) = IsConstant g v
-IsOfKind g (Copy l) = (j : ℕ) × ((same : Bool) × (IsCopy g j same × (l ≡ copied same (slice_index_or (inputs_of g) j no_input))))
+IsOfKind g (Copy l) = (j : ℕ) × ((same : Bool) × (IsCopy g j same × (l ≡ copy_lit same (slice_index_or (inputs_of g) j no_input))))
 IsOfKind g Proper = IsProper g

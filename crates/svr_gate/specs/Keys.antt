@@ -41,9 +41,9 @@ is_to_exchange j g =
     nat_lt (j + 1) g.count && (nat_lt (slice_index_or g.places (j + 1) no_input).var (slice_index_or g.places j no_input).var && is_symmetric_at g j)
 
 -- the gate with its inputs at j and behind it in order, where it may be
-unfoldable pub exchanged : ℕ → Gate → Gate
-exchanged j g = if is_to_exchange j g then record g { places = swap g.places j (j + 1) } else g
+unfoldable pub with_order_at : ℕ → Gate → Gate
+with_order_at j g = if is_to_exchange j g then record g { places = swap g.places j (j + 1) } else g
 
 -- the gate with its inputs in order, as far as they may be
 abbrev pub in_order : Gate → Gate
-in_order g = exchanged 0 (exchanged 1 (exchanged 0 (exchanged 2 (exchanged 1 (exchanged 0 g)))))
+in_order g = with_order_at 0 (with_order_at 1 (with_order_at 0 (with_order_at 2 (with_order_at 1 (with_order_at 0 g)))))

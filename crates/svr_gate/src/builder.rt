@@ -9,7 +9,7 @@ ghost use Rattle.svr_gate.specs.Numbers.{number};
 ghost use Rattle.svr_gate.specs.Gates.{table_value};
 ghost use Rattle.svr_gate.specs.Keys.{inputs_of, no_input, gate_value, in_order};
 ghost use Rattle.svr_gate.specs.Covers.{clause_count};
-ghost use Rattle.svr_gate.specs.Folding.{copied, IsConstant, IsProper};
+ghost use Rattle.svr_gate.specs.Folding.{copy_lit, IsConstant, IsProper};
 ghost use Rattle.svr_gate.specs.Circuit.{Extends, Tells, known_of, literal_of};
 ghost use Rattle.svr_gate.specs.Answers.{open_gate, HasLiteral, Answers, HasOneValue, IsInput, Adds};
 
@@ -82,7 +82,7 @@ impl Builder {
 
         // A gate that is folded.
         ensures constant { (v : Bool) → HasOneValue self.old.one table ins.entry v → IfOk result (λ l. known_of self.new.one l ≡ Some v) }
-        ensures copy { (j : ℕ) (same : Bool) → IsInput self.old.one table ins.entry j same → (result ≡ Ok (copied same (slice_index_or ins.entry j no_input))) × (self.new ≡ self.old) }
+        ensures copy { (j : ℕ) (same : Bool) → IsInput self.old.one table ins.entry j same → (result ≡ Ok (copy_lit same (slice_index_or ins.entry j no_input))) × (self.new ≡ self.old) }
 
         // Any other gate.
         ensures adds { let gate = open_gate self.old.one table ins.entry in IsProper gate → literal_of self.old.gates (in_order gate) ≡ None → OnOk result (Adds self.old self.new (clause_count gate.count gate.table)) }
@@ -145,8 +145,8 @@ impl Builder {
     fn constant(&mut self, value: bool) -> Result<Lit, NoMemory>
         ensures extends { Extends self.old self.new }
         ensures value { IfOk result (λ l. Tells self.new l (λ _. value)) }
-        ensures answer { IfOk result (λ l. (o : Lit) × ((self.new.one ≡ Some o) × (l ≡ copied value o))) }
-        ensures again { (o : Lit) → self.old.one ≡ Some o → (result ≡ Ok (copied value o)) × (self.new ≡ self.old) }
+        ensures answer { IfOk result (λ l. (o : Lit) × ((self.new.one ≡ Some o) × (l ≡ copy_lit value o))) }
+        ensures again { (o : Lit) → self.old.one ≡ Some o → (result ≡ Ok (copy_lit value o)) × (self.new ≡ self.old) }
     {
         let one = self.one()?;
         Ok(if value { one } else { one.flipped() })

@@ -1,7 +1,7 @@
 //! A gate: a table over some inputs.
 
 ghost use Rattle.std.specs.Prelude.{◌≡◌, ◌==◌, ◌≤◌, ◌<◌, ◌+◌, length};
-ghost use Rattle.svr_gate.specs.Keys.{inputs_of, is_symmetric_at, exchanged, in_order};
+ghost use Rattle.svr_gate.specs.Keys.{inputs_of, is_symmetric_at, with_order_at, in_order};
 
 use svr_chain::Lit;
 
@@ -43,10 +43,10 @@ impl Gate {
 
     /// The gate with its inputs at `place` and behind it in order, where its table lets them
     /// change places.
-    fn exchanged(self, place: usize) -> Gate
+    fn with_order_at(self, place: usize) -> Gate
         requires few { self.count ≤ 4 }
         requires at { place < 3 }
-        ensures { result ≡ exchanged place self }
+        ensures { result ≡ with_order_at place self }
     {
         let mut gate = self;
         if place + 1 < gate.count
@@ -64,11 +64,11 @@ impl Gate {
         requires { self.count ≤ 4 }
         ensures { result ≡ in_order self }
     {
-        self.exchanged(0)
-            .exchanged(1)
-            .exchanged(2)
-            .exchanged(0)
-            .exchanged(1)
-            .exchanged(0)
+        self.with_order_at(0)
+            .with_order_at(1)
+            .with_order_at(2)
+            .with_order_at(0)
+            .with_order_at(1)
+            .with_order_at(0)
     }
 }

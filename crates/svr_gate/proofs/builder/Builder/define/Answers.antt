@@ -9,12 +9,12 @@ use Rattle.svr_gate.specs.declared.gate.Gate.{Gate}
 use Rattle.svr_gate.specs.Numbers.{number}
 use Rattle.svr_gate.specs.Gates.{table_value}
 use Rattle.svr_gate.specs.Keys.{inputs_of, no_input, gate_value}
-use Rattle.svr_gate.specs.Folding.{copied, IsConstant, IsCopy}
+use Rattle.svr_gate.specs.Folding.{copy_lit, IsConstant, IsCopy}
 use Rattle.svr_gate.specs.Circuit.{Circuit, Extends, Tells, known_of}
 use Rattle.svr_gate.specs.Answers.{is_unknown, open_gate, HasLiteral, Answers}
 use Rattle.svr_gate.proofs.Circuits.{Tells-same}
 use Rattle.svr_gate.proofs.OpenLemmas.{inputs_of_open, open_gate_value, open_gate_same}
-use Rattle.svr_gate.proofs.FoldLemmas.{constant_has, constant_open, copy_open, known_copied, Answers-from, Answers-to}
+use Rattle.svr_gate.proofs.FoldLemmas.{constant_has, constant_open, copy_open, known_copy_lit, Answers-from, Answers-to}
 use Rattle.svr_gate.proofs.builder.Builder.define.Goals as goal
 
 pub literal-requires-clause-within : goal.literal-requires-clause-within
@@ -72,7 +72,7 @@ returns-clause-constant g c = λ v h.
     (λ l. known_of new.one l ≡ Some v)
     (λ l k.
     let o = constant_has new c.open_gate-gate.result l k v constant in
-    ap (λ x. known_of x l) o.1.0 ∙ ap (λ (m : Lit). known_of (Some o.0) m) o.1.1 ∙ known_copied v o.0)
+    ap (λ x. known_of x l) o.1.0 ∙ ap (λ (m : Lit). known_of (Some o.0) m) o.1.1 ∙ known_copy_lit v o.0)
     c.literal.ensures.answer
 
 pub returns-clause-copy : goal.returns-clause-copy
@@ -80,6 +80,6 @@ returns-clause-copy g c = λ j same h.
     let now = c.args.self.now in
     let e = same_gate now c.self.inside.one c.open_gate-gate.result c.args.table c.args.ins (ap (λ (x : Circuit). x.one) c.self.view_is) c.open_gate-gate.ensures in
     let p = copy_open now.one c.args.table c.args.ins j same h in
-    let l : Lit = copied same (get_or c.args.ins j no_input) in
-    let has : HasLiteral now (open_gate now.one c.args.table c.args.ins) l = inr (inl (p.0, (same, (p.1.0, ap (copied same) (sym p.1.1))))) in
+    let l : Lit = copy_lit same (get_or c.args.ins j no_input) in
+    let has : HasLiteral now (open_gate now.one c.args.table c.args.ins) l = inr (inl (p.0, (same, (p.1.0, ap (copy_lit same) (sym p.1.1))))) in
     c.literal.ensures.again l (subst (λ (x : Gate). HasLiteral now x l) (sym e) has)

@@ -7,12 +7,12 @@ use Rattle.svr_chain.specs.Valuations.{lit_value}
 use Rattle.svr_gate.specs.declared.gate.Gate.{Gate}
 use Rattle.svr_gate.specs.Keys.{inputs_of, no_input, gate_value, in_order}
 use Rattle.svr_gate.specs.Covers.{clause_count}
-use Rattle.svr_gate.specs.Folding.{copied}
+use Rattle.svr_gate.specs.Folding.{copy_lit}
 use Rattle.svr_gate.specs.Circuit.{Circuit, Tells, literal_of}
 use Rattle.svr_gate.specs.Answers.{Adds}
 use Rattle.svr_gate.proofs.Circuits.{Tells-same}
 use Rattle.svr_gate.proofs.OrderLemmas.{IsReordered, in_order_is_reordered}
-use Rattle.svr_gate.proofs.FoldLemmas.{length-inputs_of, constant_told, copy_told, copied_within, constant_has, copy_has, proper_has}
+use Rattle.svr_gate.proofs.FoldLemmas.{length-inputs_of, constant_told, copy_told, copy_lit_within, constant_has, copy_has, proper_has}
 use Rattle.svr_gate.proofs.builder.Builder.literal.Goals as goal
 
 ordered : (g h : Gate) → h ≡ in_order g → g.count ≤ 4 → length g.places ≡ 4 → IsReordered g h
@@ -43,7 +43,7 @@ returns-in-Copy-clause-value c =
     let h = c.in-Copy.ensures in
     let ins = inputs_of c.args.gate in
     record {
-      within = subst (λ (l : Lit). IsWithin c.args.self.now.vars l) (sym h.1.1.1) (copied_within c.args.self.now.vars h.1.0 (get_or ins h.0 no_input) (c.requires.within h.0 no_input (omega (arith, length-inputs_of c.args.gate c.requires.few (omega arith), h.1.1.0.0))));
+      within = subst (λ (l : Lit). IsWithin c.args.self.now.vars l) (sym h.1.1.1) (copy_lit_within c.args.self.now.vars h.1.0 (get_or ins h.0 no_input) (c.requires.within h.0 no_input (omega (arith, length-inputs_of c.args.gate c.requires.few (omega arith), h.1.1.0.0))));
       value = λ a m. ap (λ (l : Lit). lit_value a l) h.1.1.1 ∙ copy_told c.args.gate c.requires.few (omega arith) h.0 h.1.0 h.1.1.0 a;
     }
 
