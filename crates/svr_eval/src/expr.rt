@@ -14,7 +14,8 @@ use crate::env::Env;
 use crate::operator::{BinaryKind, UnaryKind, binary_kind, unary_kind};
 use crate::parts::{bits, bits_from, copied, element_at, join, literal, place_of, read, truth};
 use svr_num::Bits;
-use svr_typed::{BinOp, TBound, TExpr, TNode, TRange, UnOp};
+use svr_operator::{BinOp, UnOp};
+use svr_typed::{TBound, TExpr, TNode, TRange};
 
 /// The value at the width and the sign of a context, which is no narrower than the expression.
 #[cycle(value)]

@@ -4,7 +4,7 @@ ghost use Rattle.std.specs.Prelude.{◌≡◌, ◌≤◌};
 ghost use Rattle.svr_eval.specs.Operator as spec;
 
 use svr_num::Bits;
-use svr_typed::{BinOp, UnOp};
+use svr_operator::{BinOp, UnOp};
 
 /// A binary operator whose operands both have the width and sign of the context (IEEE 1800-2017, 11.4.3 and 11.4.8).
 #[derive(Clone, Copy, Debug, PartialEq, Eq)]
