@@ -69,8 +69,8 @@ cube_value a (l ∷ ls) row mask =
     let r : row % 2 ≡ bit (eqb (row % 2) 1) = bit_eqb (row % 2) (omega arith) in
     let X = is_like (length ls) (row / 2) (mask / 2) m in
     let like : is_like (length (l ∷ ls)) row mask (number a (l ∷ ls)) ≡ ((not (eqb (mask % 2) 1) || eqb (bit b) (row % 2)) && X) =
-        ap (λ x. (not (eqb (mask % 2) 1) || eqb x (row % 2)) && is_like (length ls) (row / 2) (mask / 2) (number a (l ∷ ls) / 2)) low
-        ∙ ap (λ x. (not (eqb (mask % 2) 1) || eqb (bit b) (row % 2)) && is_like (length ls) (row / 2) (mask / 2) x) high in
+    ap (λ x. (not (eqb (mask % 2) 1) || eqb x (row % 2)) && is_like (length ls) (row / 2) (mask / 2) (number a (l ∷ ls) / 2)) low
+    ∙ ap (λ x. (not (eqb (mask % 2) 1) || eqb (bit b) (row % 2)) && is_like (length ls) (row / 2) (mask / 2) x) high in
     ap (list_any (lit_value a)) (cube_inputs-cons l ls row mask)
     ∙ by_mask (eqb (mask % 2) 1) rest r
     ∙ ap not (sym like) where
@@ -141,7 +141,7 @@ module _ (a : ℕ → Bool) (table : ℕ) (ins : List Lit) (out : ℕ) where
       ⊎_elim
       (λ (i : is_in k c n ≡ true).
       let v : (not true || lit_value a (out_lit out (table_value table c.row))) ≡ true =
-          ap (λ b. not b || lit_value a (out_lit out (table_value table c.row))) (sym i) ∙ sym (clause_value-cube a table ins out c) ∙ parts.0 in
+      ap (λ b. not b || lit_value a (out_lit out (table_value table c.row))) (sym i) ∙ sym (clause_value-cube a table ins out c) ∙ parts.0 in
       out_told a out (table_value table c.row) v ∙ right_value k table n c rights.0 i)
       (λ (i : is_in k c n ≡ false). cubes_tell cs (ap (λ b. b || list_any (λ d. is_in k d n) cs) (sym i) ∙ h) rights.1 parts.1)
       (cases_Bool (is_in k c n))

@@ -83,9 +83,9 @@ module _ (c : Circuit) (g : Gate) (l : Lit) (has : HasLiteral c g l) where
       elim has [
         | inl k ↦ (k.1.1.0, (k.1.1.1.0, k.1.1.1.1 ∙ ap (λ b. copy_lit b k.1.1.0) (constant_constant g k.0 v k.1.0 h)))
         | inr r ↦ elim r [
-            | inl k ↦ absurd (constant_copy g v k.0 k.1.0 h k.1.1.0)
-            | inr k ↦ absurd (k.0.constant v h)
-          ]
+          | inl k ↦ absurd (constant_copy g v k.0 k.1.0 h k.1.1.0)
+          | inr k ↦ absurd (k.0.constant v h)
+        ]
       ]
 
   pub copy_has : (j : ℕ) (same : Bool) → IsCopy g j same → l ≡ copy_lit same (get_or (inputs_of g) j no_input)
@@ -93,11 +93,11 @@ module _ (c : Circuit) (g : Gate) (l : Lit) (has : HasLiteral c g l) where
       elim has [
         | inl k ↦ absurd (constant_copy g k.0 j same k.1.0 h)
         | inr r ↦ elim r [
-            | inl k ↦
-                let p = copy_copy g k.0 j k.1.0 same k.1.1.0 h in
-                k.1.1.1 ∙ ap (λ b. copy_lit b (get_or (inputs_of g) k.0 no_input)) p.1 ∙ ap (λ i. copy_lit same (get_or (inputs_of g) i no_input)) p.0
-            | inr k ↦ absurd (k.0.copy j same h)
-          ]
+          | inl k ↦
+              let p = copy_copy g k.0 j k.1.0 same k.1.1.0 h in
+              k.1.1.1 ∙ ap (λ b. copy_lit b (get_or (inputs_of g) k.0 no_input)) p.1 ∙ ap (λ i. copy_lit same (get_or (inputs_of g) i no_input)) p.0
+          | inr k ↦ absurd (k.0.copy j same h)
+        ]
       ]
 
   pub proper_has : IsProper g → literal_of c.gates (in_order g) ≡ Some l
@@ -105,9 +105,9 @@ module _ (c : Circuit) (g : Gate) (l : Lit) (has : HasLiteral c g l) where
       elim has [
         | inl k ↦ absurd (h.constant k.0 k.1.0)
         | inr r ↦ elim r [
-            | inl k ↦ absurd (h.copy k.0 k.1.0 k.1.1.0)
-            | inr k ↦ k.1
-          ]
+          | inl k ↦ absurd (h.copy k.0 k.1.0 k.1.1.0)
+          | inr k ↦ k.1
+        ]
       ]
 
 -- the rows of the gate over the open inputs are the open rows
@@ -181,9 +181,9 @@ copy_open one t ins j same h =
         (
           p.below,
           λ i lt.
-          open_rows_value t one ins (2 ^ length (open_inputs one ins)) i lt
-          ∙ h.1.1 (full_row one ins i) (full_row-lt one ins i) (full_row_is_open one ins i)
-          ∙ ap (λ n. copy_of same (eqb n 1)) (p.bits i),
+              open_rows_value t one ins (2 ^ length (open_inputs one ins)) i lt
+              ∙ h.1.1 (full_row one ins i) (full_row-lt one ins i) (full_row_is_open one ins i)
+              ∙ ap (λ n. copy_of same (eqb n 1)) (p.bits i),
         ),
         ap (λ ls. get_or ls p.place no_input) (inputs_of_open one t ins) ∙ p.input,
       ),

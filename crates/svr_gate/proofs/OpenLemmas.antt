@@ -144,14 +144,14 @@ module _ (one : Option Lit) (ins : List Lit) (i : ℕ) (d : Lit) (full weight le
   known_step v u =
       let rest = full_row one (drop (i + 1) ins) in
       let n : full_row one (drop i ins) left ≡ bit v + 2 * rest left =
-          at_drop_more (λ xs. full_row one xs left) ins i d h ∙ full_row-cons one (get_or ins i d) (drop (i + 1) ins) left ∙ ap (λ o. row_with o rest left) u in
+      at_drop_more (λ xs. full_row one xs left) ins i d h ∙ full_row-cons one (get_or ins i d) (drop (i + 1) ins) left ∙ ap (λ o. row_with o rest left) u in
       omega (arith, e, ap (λ k. weight * k) n)
 
   pub unknown_step : known_of one (get_or ins i d) ≡ None → (full + weight * (left % 2)) + weight * 2 * full_row one (drop (i + 1) ins) (left / 2) ≡ all
   unknown_step u =
       let rest = full_row one (drop (i + 1) ins) in
       let n : full_row one (drop i ins) left ≡ left % 2 + 2 * rest (left / 2) =
-          at_drop_more (λ xs. full_row one xs left) ins i d h ∙ full_row-cons one (get_or ins i d) (drop (i + 1) ins) left ∙ ap (λ o. row_with o rest left) u in
+      at_drop_more (λ xs. full_row one xs left) ins i d h ∙ full_row-cons one (get_or ins i d) (drop (i + 1) ins) left ∙ ap (λ o. row_with o rest left) u in
       omega (arith, e, ap (λ k. weight * k) n)
 
 pub row_below : (full weight value i : ℕ) → value ≤ 1 → weight ≡ 2 ^ i → full < 2 ^ i → (weight * 2 ≡ 2 ^ (i + 1)) × (full + weight * value < 2 ^ (i + 1))

@@ -42,9 +42,9 @@ exchanged_later : (j b m k : ℕ) → b ≤ 1 → AreExchanged j m k → AreExch
 exchanged_later j b m k h e =
     let p = pow-suc 2 j in
     let shifted : (n : ℕ) → (b + 2 * n) / 2 ^ suc j ≡ n / 2 ^ j = λ n.
-            let half : (b + 2 * n) / 2 ^ 1 ≡ n = omega arith in
-            let e : suc j ≡ 1 + j = omega arith in
-            ap (λ x. (b + 2 * n) / 2 ^ x) e ∙ sym (shr-shr (b + 2 * n) 1 j) ∙ ap (λ x. x / 2 ^ j) half in
+    let half : (b + 2 * n) / 2 ^ 1 ≡ n = omega arith in
+    let e : suc j ≡ 1 + j = omega arith in
+    ap (λ x. (b + 2 * n) / 2 ^ x) e ∙ sym (shr-shr (b + 2 * n) 1 j) ∙ ap (λ x. x / 2 ^ j) half in
     ⊎_elim
     (λ (s : m ≡ k). inl (ap (λ x. b + 2 * x) s))
     (λ (o : ((m / 2 ^ j % 4 ≡ 1) × (k ≡ m + 2 ^ j)) ⊎ ((k / 2 ^ j % 4 ≡ 1) × (m ≡ k + 2 ^ j))).
@@ -99,8 +99,8 @@ reordered_trans p q = record {
 symmetric_rows : (t j n m k : ℕ) → all_below (λ i. not (tells_apart t j i)) n ≡ true → m < n → k < n → AreExchanged j m k → table_value t k ≡ table_value t m
 symmetric_rows t j n m k s h g e =
     let apart : (i : ℕ) → i < n → i / 2 ^ j % 4 ≡ 1 → bit_at t i ≡ bit_at t (i + 2 ^ j) = λ i lt first.
-            let no : not (eqb (i / 2 ^ j % 4) 1 && not (eqb (bit_at t i) (bit_at t (i + 2 ^ j)))) ≡ true = all_below-at (λ i. not (tells_apart t j i)) n i s lt in
-            eqb-true (bit_at t i) (bit_at t (i + 2 ^ j)) (same (eqb (i / 2 ^ j % 4) 1) (eqb (bit_at t i) (bit_at t (i + 2 ^ j))) (eq-eqb (i / 2 ^ j % 4) 1 first) no) in
+    let no : not (eqb (i / 2 ^ j % 4) 1 && not (eqb (bit_at t i) (bit_at t (i + 2 ^ j)))) ≡ true = all_below-at (λ i. not (tells_apart t j i)) n i s lt in
+    eqb-true (bit_at t i) (bit_at t (i + 2 ^ j)) (same (eqb (i / 2 ^ j % 4) 1) (eqb (bit_at t i) (bit_at t (i + 2 ^ j))) (eq-eqb (i / 2 ^ j % 4) 1 first) no) in
     ⊎_elim
     (λ (x : m ≡ k). ap (table_value t) (sym x))
     (λ (o : ((m / 2 ^ j % 4 ≡ 1) × (k ≡ m + 2 ^ j)) ⊎ ((k / 2 ^ j % 4 ≡ 1) × (m ≡ k + 2 ^ j))).
@@ -139,17 +139,17 @@ with_order_at_is_reordered j g few four =
     let inputs : length (take g.count g.places) ≡ g.count = length-take-le g.count g.places (omega arith) in
     let inputs_after : length (take g.count (exchange j g.places)) ≡ g.count = length-take-le g.count (exchange j g.places) (omega arith) in
     let moved : IsReordered g (record g { places = exchange j g.places }) = record {
-          count = refl;
-          table = refl;
-          four = len;
-          within = λ v w. within_exchanged v g.count j g.places lt (omega arith) w;
-          value = λ a.
-              symmetric_rows g.table j (2 ^ g.count) (number a (take g.count g.places)) (number a (take g.count (exchange j g.places)))
-              (sym (is_symmetric_at-test g j) ∙ q.1)
-              (subst (λ (k : ℕ). number a (take g.count g.places) < 2 ^ k) inputs (number-lt a (take g.count g.places)))
-              (subst (λ (k : ℕ). number a (take g.count (exchange j g.places)) < 2 ^ k) inputs_after (number-lt a (take g.count (exchange j g.places))))
-              (rows_exchanged a g.count j g.places lt (omega arith));
-        } in
+      count = refl;
+      table = refl;
+      four = len;
+      within = λ v w. within_exchanged v g.count j g.places lt (omega arith) w;
+      value = λ a.
+          symmetric_rows g.table j (2 ^ g.count) (number a (take g.count g.places)) (number a (take g.count (exchange j g.places)))
+          (sym (is_symmetric_at-test g j) ∙ q.1)
+          (subst (λ (k : ℕ). number a (take g.count g.places) < 2 ^ k) inputs (number-lt a (take g.count g.places)))
+          (subst (λ (k : ℕ). number a (take g.count (exchange j g.places)) < 2 ^ k) inputs_after (number-lt a (take g.count (exchange j g.places))))
+          (rows_exchanged a g.count j g.places lt (omega arith));
+    } in
     subst (λ (h : Gate). IsReordered g h) (sym (cond-true (is_to_exchange j g) (record g { places = swap g.places j (j + 1) }) g e ∙ ap (λ ps. record g { places = ps }) s)) moved)
     (λ (e : is_to_exchange j g ≡ false). subst (λ (h : Gate). IsReordered g h) (sym (cond-false (is_to_exchange j g) (record g { places = swap g.places j (j + 1) }) g e)) (reordered_refl g))
     (cases_Bool (is_to_exchange j g)))

@@ -13,8 +13,11 @@ pub struct Cube {
 }
 
 const BOTH: u16 = table!(both);
+
 const EITHER: u16 = table!(either);
+
 const CARRY: u16 = table!(carry);
+
 const CHOICE: u16 = table!(choice);
 
 /// Cubes that cover a table, on each of which it has one value, where a short list is known.

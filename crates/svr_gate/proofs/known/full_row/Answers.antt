@@ -45,5 +45,5 @@ loop-lit-preserved c =
 pub returns-clause-row : goal.returns-clause-row
 returns-clause-row c =
     let e : full_row c.args.one (drop c.loop-lit.lit-index c.args.ins.now) c.loop-lit.left ≡ 0 =
-        ap (λ xs. full_row c.args.one xs c.loop-lit.left) (drop_all c.loop-lit.lit-index c.args.ins.now c.loop-lit-test.false) ∙ full_row-nil c.args.one c.loop-lit.left in
+    ap (λ xs. full_row c.args.one xs c.loop-lit.left) (drop_all c.loop-lit.lit-index c.args.ins.now c.loop-lit-test.false) ∙ full_row-nil c.args.one c.loop-lit.left in
     omega (arith, c.loop-lit.invariant.row, ap (λ k. c.loop-lit.weight * k) e)

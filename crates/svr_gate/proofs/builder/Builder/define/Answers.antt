@@ -47,8 +47,8 @@ returns-clause-answer g c =
     let now = c.args.self.now in
     let known : All (λ l. known_of new.one l ≡ known_of now.one l) c.args.ins = λ k d lt. c.literal.ensures.extends.known (get_or c.args.ins k d) (c.requires.within k d lt) in
     let e : c.open_gate-gate.result ≡ open_gate new.one c.args.table c.args.ins =
-        same_gate now c.self.inside.one c.open_gate-gate.result c.args.table c.args.ins (ap (λ (x : Circuit). x.one) c.self.view_is) c.open_gate-gate.ensures
-        ∙ sym (open_gate_same now.one new.one c.args.table c.args.ins known) in
+    same_gate now c.self.inside.one c.open_gate-gate.result c.args.table c.args.ins (ap (λ (x : Circuit). x.one) c.self.view_is) c.open_gate-gate.ensures
+    ∙ sym (open_gate_same now.one new.one c.args.table c.args.ins known) in
     IfOk-weaker c.literal.result
     (λ l. HasLiteral new c.open_gate-gate.result l)
     (λ l. Answers new c.args.table c.args.ins l)

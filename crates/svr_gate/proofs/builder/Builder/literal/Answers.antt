@@ -71,6 +71,6 @@ pub returns-in-Proper-clause-adds : goal.returns-in-Proper-clause-adds
 returns-in-Proper-clause-adds c = λ p none.
     let r = ordered c.args.gate c.in_order.result c.in_order.ensures c.requires.few (omega arith) in
     let count : clause_count c.in_order.result.count c.in_order.result.table ≡ clause_count c.args.gate.count c.args.gate.table =
-        ap (λ k. clause_count k c.in_order.result.table) r.count ∙ ap (clause_count c.args.gate.count) r.table in
+    ap (λ k. clause_count k c.in_order.result.table) r.count ∙ ap (clause_count c.args.gate.count) r.table in
     subst (λ (n : ℕ). OnOk c.shared_gate.result (Adds c.args.self.now c.shared_gate.new.self n)) count
     (c.shared_gate.ensures.adds (ap (literal_of c.args.self.now.gates) c.in_order.ensures ∙ none))

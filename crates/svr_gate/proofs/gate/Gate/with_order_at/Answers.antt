@@ -12,9 +12,9 @@ returns-then-is_symmetric_at c =
     let g : Gate = c.args.self in
     let j = c.args.place in
     let e : is_to_exchange j g ≡ true =
-        and_from (nat_lt (j + 1) g.count) _ (lt-ltb (j + 1) g.count c.if-place-gate.true)
-        (and_from (nat_lt (get_or g.places (j + 1) no_input).var (get_or g.places j no_input).var) (is_symmetric_at g j) (lt-ltb (get_or g.places (j + 1) no_input).var (get_or g.places j no_input).var c.if-gate-place.true)
-        (sym c.is_symmetric_at.ensures ∙ c.if-is_symmetric_at.true)) in
+    and_from (nat_lt (j + 1) g.count) _ (lt-ltb (j + 1) g.count c.if-place-gate.true)
+    (and_from (nat_lt (get_or g.places (j + 1) no_input).var (get_or g.places j no_input).var) (is_symmetric_at g j) (lt-ltb (get_or g.places (j + 1) no_input).var (get_or g.places j no_input).var c.if-gate-place.true)
+    (sym c.is_symmetric_at.ensures ∙ c.if-is_symmetric_at.true)) in
     ap (λ ps. record g { places = ps }) c.swap.ensures.after
     ∙ sym (with_order_at-cases j g ∙ cond-true (is_to_exchange j g) (record g { places = swap g.places j (j + 1) }) g e)
 
