@@ -5,7 +5,7 @@ ghost use Rattle.std.specs.Prelude.{◌≡◌, false};
 use crate::{Builder, NoMemory, table};
 use std::alloc::Global;
 use std::test::Fail;
-use svr_chain::{Cnf, Lit};
+use svr_chain::{Clause, Cnf, Lit};
 
 fn input(var: u64) -> Lit
     ensures { result ≡ record { var = var; neg = false } }
@@ -19,17 +19,34 @@ fn holds(lit: Lit, valuation: u64) -> bool {
     ((valuation >> place) % 2 == 1) != lit.neg
 }
 
+fn is_met(clause: &Clause, valuation: u64) -> bool {
+    for lit in clause.lits() {
+        if holds(*lit, valuation) {
+            return true;
+        }
+    }
+    false
+}
+
 fn meets(cnf: &Cnf, valuation: u64) -> bool {
-    cnf.clauses.iter().all(|clause| clause.lits().iter().any(|lit| holds(*lit, valuation)))
+    for clause in &cnf.clauses {
+        if !is_met(clause, valuation) {
+            return false;
+        }
+    }
+    true
 }
 
 /// Whether the clauses hold just where the variable behind the `count` inputs is the table's value.
 fn define_table(cnf: &Cnf, table: u16, count: u32) -> bool {
-    let rows = 1 << count.min(4);
-    (0..2 * rows).all(|valuation: u64| {
-        let is_one = (u64::from(table) >> (valuation % rows).min(15)) % 2 == 1;
-        meets(cnf, valuation) == (is_one == (valuation / rows == 1))
-    })
+    for row in 0..1u64 << count.min(4) {
+        let is_one = (table >> (row % 16)) % 2 == 1;
+        let with_output = row | 1 << count.min(4);
+        if meets(cnf, with_output) != is_one || meets(cnf, row) == is_one {
+            return false;
+        }
+    }
+    true
 }
 
 /// A gate of two inputs, asked for once or twice.
