@@ -8,7 +8,7 @@ use Rattle.svr_gate.specs.Circuit.{Circuit, Extends, Tells}
 use Rattle.svr_gate.proofs.NumberLemmas.{lit_value-flip}
 
 pub Extends-refl : (c : Circuit) → Extends c c
-Extends-refl c = record { inputs = refl; vars = omega arith; keeps = λ a m. m; extends = λ a m. (a, (λ v h. refl), m) }
+Extends-refl c = record { inputs = refl; vars = omega arith; keeps = λ a m. m; extends = λ a m. (a, (λ v h. refl), m); one = λ l e. e; known = λ l w. refl; gates = λ g l e. e }
 
 pub Extends-trans : {c d e : Circuit} → Extends c d → Extends d e → Extends c e
 Extends-trans {c} {d} {e} p q = record {
@@ -19,6 +19,9 @@ Extends-trans {c} {d} {e} p q = record {
       let f = p.extends a m in
       let g = q.extends f.0 f.2 in
       (g.0, (λ v h. g.1 v (omega (arith, p.vars)) ∙ f.1 v h), g.2);
+  one = λ l h. q.one l (p.one l h);
+  known = λ l w. q.known l (w.0, omega (arith, w.1, p.vars)) ∙ p.known l w;
+  gates = λ g l h. q.gates g l (p.gates g l h);
 }
 
 pub ruleset later = (Extends-refl, Extends-trans)

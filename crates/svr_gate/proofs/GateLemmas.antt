@@ -1,165 +1,129 @@
--- What a gate's rows say of its output
-use Rattle.std.proofs.Common.{◌≡◌, ℕ, zero, suc, ◌+◌, ◌*◌, ◌/◌, ◌%◌, ◌^◌, ◌<◌, ◌≤◌, ◌⊎◌, inl, inr, ⊎_elim, Bool, true, false, cond, not, ◌||◌, eqb, List, [], ◌∷◌, length, refl, sym, ◌∙◌, ap, arith}
-use Rattle.std.specs.List.{All, list_any, Contains}
-use Rattle.std.proofs.lemmas.Bool.{cases_eq, or_left, or_right, not-true, and_from, and_parts}
-use Rattle.std.proofs.lemmas.List.Folds.{list_any-append, list_any_none}
-use Rattle.std.proofs.lemmas.List.Elements.{All-head, All-tail, All-nil, All-cons, All-push, All-weaker, Contains-push, Contains-append_left}
-use Rattle.std.proofs.Math.Nat.{pow-suc}
+-- Clauses that hold just where the output is the table settle the output: a clause that is false with the wrong output holds the output
+use Rattle.std.proofs.Common.{◌≡◌, ℕ, zero, suc, ◌+◌, ◌<◌, ◌≤◌, ◌⊎◌, inl, inr, ⊎_elim, Bool, true, false, cond, not, eqb, List, [], ◌∷◌, get_or, refl, sym, ◌∙◌, ap, arith, subst}
+use Rattle.std.specs.List.{All, Contains, list_any, list_all}
+use Rattle.std.proofs.lemmas.Bool.{cases_eq, cases_Bool, cond-true, cond-false, eq-eqb, ne_eqb, and_from, and_parts, or_parts, false≢true, true≢false}
+use Rattle.std.proofs.lemmas.List.Elements.{All-cons, All-nil, All-contains}
 use Rattle.svr_chain.specs.declared.clause.Lit.{Lit}
-use Rattle.svr_chain.specs.Clauses.{IsWithin, AreWithin, flip}
-use Rattle.svr_chain.specs.Valuations.{lit_value, clause_value, Meets}
-use Rattle.svr_chain.proofs.ValuationLemmas.{Meets-nil, Meets-append, Meets-append_parts}
-use Rattle.svr_gate.specs.Numbers.{bit, number}
+use Rattle.svr_chain.specs.Clauses.{AreWithin}
 use Rattle.svr_chain.specs.Settled.{Forces}
-use Rattle.svr_gate.specs.Gates.{table_value, row_inputs, row_clause, rows_upto}
-use Rattle.svr_gate.proofs.NumberLemmas.{number-cons, lit_value-flip}
-use Rattle.svr_gate.proofs.RowLemmas.{rows_upto-zero, rows_upto-suc}
+use Rattle.svr_chain.specs.Valuations.{lit_value, clause_value, Meets, AgreeUpTo}
+use Rattle.svr_chain.proofs.ValuationLemmas.{lit_value-agree, clause_value-agree}
+use Rattle.svr_gate.specs.Numbers.{number}
+use Rattle.svr_gate.specs.Gates.{table_value}
+use Rattle.svr_gate.specs.Covers.{Defines}
+use Rattle.svr_gate.proofs.NumberLemmas.{number-agree}
 
-first_false : (a : ℕ → Bool) (l : Lit) (m : ℕ) (b : Bool) → lit_value a l ≡ b → m ≡ bit b → lit_value a (cond (eqb m 1) (flip l) l) ≡ false
-first_false a l m true e h = rw h (lit_value-flip a l ∙ ap not e)
-first_false a l m false e h = rw h e
+-- the valuation that gives the variable v this value
+abbrev pub with_value : (ℕ → Bool) → ℕ → Bool → ℕ → Bool
+with_value a v b u = cond (eqb u v) b (a u)
 
-first_true : (a : ℕ → Bool) (l : Lit) (m : ℕ) (b : Bool) → lit_value a l ≡ b → m < 2 → (m ≡ bit b → ⊥) → lit_value a (cond (eqb m 1) (flip l) l) ≡ true
-first_true a l m true e h n = let z : m ≡ 0 = omega arith in rw z e
-first_true a l m false e h n = let z : m ≡ 1 = omega arith in rw z (lit_value-flip a l ∙ ap not e)
+pub with_value-agree : (n : ℕ) (a : ℕ → Bool) (b : Bool) → AgreeUpTo n a (with_value a (n + 1) b)
+with_value-agree n a b v h = cond-false (eqb v (n + 1)) b (a v) (ne_eqb v (n + 1) (λ e. omega arith))
 
-halves : (b : Bool) (n : ℕ) → ((bit b + 2 * n) % 2 ≡ bit b) × ((bit b + 2 * n) / 2 ≡ n)
-halves true n = (omega arith, omega arith)
-halves false n = (omega arith, omega arith)
+pub with_value-at : (a : ℕ → Bool) (v : ℕ) (b : Bool) → with_value a v b v ≡ b
+with_value-at a v b = cond-true (eqb v v) b (a v) (eq-eqb v v refl)
 
--- at the row that the inputs read as, no input's literal holds
-pub row_inputs_false : (a : ℕ → Bool) (ins : List Lit) (i : ℕ) → i ≡ number a ins → All (λ l. lit_value a l ≡ false) (row_inputs ins i)
-unfolding row_inputs
-row_inputs_false a [] i e = All-nil (λ l. lit_value a l ≡ false)
-row_inputs_false a (l ∷ ls) i e =
-    let n = number-cons a l ls in
-    let h = halves (lit_value a l) (number a ls) in
-    let r : i % 2 ≡ bit (lit_value a l) = ap (λ x. x % 2) (e ∙ n) ∙ h.0 in
-    let q : i / 2 ≡ number a ls = ap (λ x. x / 2) (e ∙ n) ∙ h.1 in
-    All-cons (λ l. lit_value a l ≡ false) (cond (eqb (i % 2) 1) (flip l) l) (row_inputs ls (i / 2))
-    (first_false a l (i % 2) (lit_value a l) refl r) (row_inputs_false a ls (i / 2) q)
+head_in : {X : Type 0} (x : X) (xs : List X) → Contains (x ∷ xs) x
+head_in x xs = (0, omega arith, refl)
 
--- at any other row, one does
-pub row_inputs_true : (a : ℕ → Bool) (ins : List Lit) (i : ℕ) → i < 2 ^ length ins → (i ≡ number a ins → ⊥) → list_any (lit_value a) (row_inputs ins i) ≡ true
-unfolding row_inputs
-row_inputs_true a [] i lt n = absurd (n (unfold number in omega arith))
-row_inputs_true a (l ∷ ls) i lt n =
-    let m : i % 2 < 2 = omega arith in
-    ⊎_elim
-    (λ (r : i % 2 ≡ bit (lit_value a l)).
-    or_right _ _ (row_inputs_true a ls (i / 2) (omega (arith, pow-suc 2 (length ls)))
-    (λ (q : i / 2 ≡ number a ls). n (omega (arith, number-cons a l ls)))))
-    (λ (r : i % 2 ≡ bit (lit_value a l) → ⊥). or_left _ _ (first_true a l (i % 2) (lit_value a l) refl m r))
-    (cases_eq (i % 2) (bit (lit_value a l)))
+tail_in : {X : Type 0} (y x : X) (xs : List X) → Contains xs x → Contains (y ∷ xs) x
+tail_in y x xs h = (suc h.0, omega (arith, h.1), h.2)
 
--- the literal of the output in a row where the table has b
-abbrev pub out_lit : ℕ → Bool → Lit
-out_lit out b = record { var = out; neg = not b }
-
-out_true : (a : ℕ → Bool) (out : ℕ) (b : Bool) → a out ≡ b → lit_value a (out_lit out b) ≡ true
-unfolding lit_value
-out_true a out true e = e
-out_true a out false e = ap not e
-
-out_told : (a : ℕ → Bool) (out : ℕ) (b : Bool) → lit_value a (out_lit out b) ≡ true → a out ≡ b
-unfolding lit_value
-out_told a out true e = e
-out_told a out false e = not-true (a out) e
-
-list_any_one : (a : ℕ → Bool) (l : Lit) → list_any (lit_value a) (l ∷ []) ≡ lit_value a l
-list_any_one a l = or_false (lit_value a l) where
-  or_false : (b : Bool) → (b || false) ≡ b
-  or_false true = refl
-  or_false false = refl
-
-none_of : (a : ℕ → Bool) (ls : List Lit) → All (λ l. lit_value a l ≡ false) ls → list_any (lit_value a) ls ≡ false
-none_of a ls h = list_any_none (lit_value a) ls h
-
-clause_value-row : (a : ℕ → Bool) (table : ℕ) (ins : List Lit) (out i : ℕ) → clause_value a (row_clause table ins out i) ≡ (list_any (lit_value a) (row_inputs ins i) || lit_value a (out_lit out (table_value table i)))
-unfolding clause_value row_clause
-clause_value-row a table ins out i =
-    list_any-append (lit_value a) (row_inputs ins i) (out_lit out (table_value table i) ∷ [])
-    ∙ ap (λ b. list_any (lit_value a) (row_inputs ins i) || b) (list_any_one a (out_lit out (table_value table i)))
-
-meets_one : (a : ℕ → Bool) (c : List Lit) → clause_value a c ≡ true → Meets a (c ∷ [])
+-- a clause that is false, among clauses that are not all met
+false_clause : (a : ℕ → Bool) (cs : List (List Lit)) → (Meets a cs → ⊥) → (c : List Lit) × Contains cs c × (clause_value a c ≡ false)
 unfolding Meets
-meets_one a c h = and_from _ _ h refl
+false_clause a [] h = absurd (h refl)
+false_clause a (c ∷ cs) h =
+    ⊎_elim
+    (λ (e : clause_value a c ≡ true).
+    let r = false_clause a cs (λ m. h (and_from (clause_value a c) (list_all (clause_value a) cs) e m)) in
+    (r.0, tail_in c r.0 cs r.1, r.2))
+    (λ (e : clause_value a c ≡ false). (c, head_in c cs, e))
+    (cases_Bool (clause_value a c))
 
-met_one : (a : ℕ → Bool) (c : List Lit) → Meets a (c ∷ []) → clause_value a c ≡ true
+all_false : (a : ℕ → Bool) (c : List Lit) → clause_value a c ≡ false → All (λ l. lit_value a l ≡ false) c
+unfolding clause_value
+all_false a [] e = All-nil (λ l. lit_value a l ≡ false)
+all_false a (l ∷ c) e = let p = or_parts (lit_value a l) (list_any (lit_value a) c) e in All-cons (λ l. lit_value a l ≡ false) l c p.0 (all_false a c p.1)
+
+-- a literal of v in the clause, or none
+literal_in : (v : ℕ) (c : List Lit) → ((l : Lit) × Contains c l × (l.var ≡ v)) ⊎ All (λ l. l.var ≡ v → ⊥) c
+literal_in v [] = inr (All-nil (λ l. l.var ≡ v → ⊥))
+literal_in v (l ∷ c) =
+    ⊎_elim
+    (λ (e : l.var ≡ v). inl (l, head_in l c, e))
+    (λ (n : l.var ≡ v → ⊥).
+    ⊎_elim
+    (λ (f : (m : Lit) × Contains c m × (m.var ≡ v)). inl (f.0, tail_in l f.0 c f.1, f.2))
+    (λ (f : All (λ m. m.var ≡ v → ⊥) c). inr (All-cons (λ m. m.var ≡ v → ⊥) l c n f))
+    (literal_in v c))
+    (cases_eq l.var v)
+
+same_neg : (a : ℕ → Bool) (l m : Lit) → l.var ≡ m.var → lit_value a l ≡ false → lit_value a m ≡ false → l.neg ≡ m.neg
+unfolding lit_value
+same_neg a l m e f g = signs l.neg m.neg (a m.var) (ap (λ v. cond l.neg (not (a v)) (a v)) (sym e) ∙ f) g where
+  signs : (p q v : Bool) → cond p (not v) v ≡ false → cond q (not v) v ≡ false → p ≡ q
+  signs true true v h k = refl
+  signs true false true h k = absurd (true≢false k)
+  signs true false false h k = absurd (true≢false h)
+  signs false true true h k = absurd (true≢false h)
+  signs false true false h k = absurd (true≢false k)
+  signs false false v h k = refl
+
+same_parts : (l m : Lit) → l.var ≡ m.var → l.neg ≡ m.neg → l ≡ m
+same_parts l m e f =
+    let mk : ℕ → Bool → Lit = λ v s. record { var = v; neg = s } in
+    ap (λ v. mk v l.neg) e ∙ ap (λ s. mk m.var s) f
+
+all_met : (a : ℕ → Bool) (cs : List (List Lit)) → Meets a cs → All (λ c. clause_value a c ≡ true) cs
 unfolding Meets
-met_one a c h = (and_parts _ _ h).0
+all_met a [] m = All-nil (λ c. clause_value a c ≡ true)
+all_met a (c ∷ cs) m = let p = and_parts (clause_value a c) (list_all (clause_value a) cs) m in All-cons (λ c. clause_value a c ≡ true) c cs p.0 (all_met a cs p.1)
 
--- where the rows hold, the output is the table's entry at the inputs
-pub rows_tell : (a : ℕ → Bool) (table : ℕ) (ins : List Lit) (out n : ℕ) → Meets a (rows_upto table ins out n) → number a ins < n → a out ≡ table_value table (number a ins)
-rows_tell a table ins out zero m h = absurd (omega arith)
-rows_tell a table ins out (suc n) m h =
-    let p = Meets-append_parts a (rows_upto table ins out n) (row_clause table ins out n ∷ []) (rw rows_upto-suc at m) in
-    ⊎_elim
-    (λ (e : n ≡ number a ins).
-    let none = none_of a (row_inputs ins n) (row_inputs_false a ins n e) in
-    let v = sym (clause_value-row a table ins out n) ∙ met_one a (row_clause table ins out n) p.1 in
-    let w : lit_value a (out_lit out (table_value table n)) ≡ true = rw none at v in
-    out_told a out (table_value table n) w ∙ ap (table_value table) e)
-    (λ (e : n ≡ number a ins → ⊥). rows_tell a table ins out n p.0 (omega arith))
-    (cases_eq n (number a ins))
+not_same : (b : Bool) → not b ≡ b → ⊥
+not_same true h = false≢true h
+not_same false h = true≢false h
 
--- and where it is, the rows hold
-pub rows_met : (a : ℕ → Bool) (table : ℕ) (ins : List Lit) (out n : ℕ) → a out ≡ table_value table (number a ins) → n ≤ 2 ^ length ins → Meets a (rows_upto table ins out n)
-rows_met a table ins out zero e h = rw rows_upto-zero (Meets-nil a)
-rows_met a table ins out (suc n) e h =
-    rw rows_upto-suc
-    (Meets-append a (rows_upto table ins out n) (row_clause table ins out n ∷ [])
-    (rows_met a table ins out n e (omega arith))
-    (meets_one a (row_clause table ins out n)
-    (clause_value-row a table ins out n ∙
-    ⊎_elim
-    (λ (q : n ≡ number a ins). or_right _ _ (out_true a out (table_value table n) (e ∙ ap (table_value table) (sym q))))
-    (λ (q : n ≡ number a ins → ⊥). or_left _ _ (row_inputs_true a ins n (omega arith) q))
-    (cases_eq n (number a ins)))))
+module _ (table : ℕ) (ins : List Lit) (n : ℕ) (cs : List (List Lit)) (w : AreWithin n ins) (d : Defines table ins (n + 1) cs) where
+  abbrev value_at : (ℕ → Bool) → Bool
+  value_at a = table_value table (number a ins)
 
--- each row is among the rows
-pub rows_upto-Contains : (table : ℕ) (ins : List Lit) (out n i : ℕ) → i < n → Contains (rows_upto table ins out n) (row_clause table ins out i)
-rows_upto-Contains table ins out zero i h = absurd (omega arith)
-rows_upto-Contains table ins out (suc n) i h =
-    rw rows_upto-suc
-    (⊎_elim
-    (λ (e : i ≡ n). rw e (Contains-push (rows_upto table ins out n) (row_clause table ins out n)))
-    (λ (e : i ≡ n → ⊥). Contains-append_left (rows_upto table ins out n) (row_clause table ins out n ∷ []) (row_clause table ins out i) (rows_upto-Contains table ins out n i (omega arith)))
-    (cases_eq i n))
+  early : (a b : ℕ → Bool) → AgreeUpTo n a b → value_at b ≡ value_at a
+  early a b g = ap (table_value table) (number-agree n a b ins g w)
 
-row_inputs_within : (n : ℕ) (ins : List Lit) (i : ℕ) → AreWithin n ins → AreWithin n (row_inputs ins i)
-unfolding row_inputs
-row_inputs_within n [] i w = All-nil (IsWithin n)
-row_inputs_within n (l ∷ ls) i w =
-    All-cons (IsWithin n) (cond (eqb (i % 2) 1) (flip l) l) (row_inputs ls (i / 2))
-    (within_either (eqb (i % 2) 1) (All-head (IsWithin n) l ls w)) (row_inputs_within n ls (i / 2) (All-tail (IsWithin n) l ls w)) where
-      within_either : (b : Bool) → IsWithin n l → IsWithin n (cond b (flip l) l)
-      within_either true h = h
-      within_either false h = h
-
-row_clause_within : (n out table : ℕ) (ins : List Lit) (i : ℕ) → AreWithin n ins → n < out → AreWithin out (row_clause table ins out i)
-unfolding row_clause
-row_clause_within n out table ins i w h =
-    All-push (IsWithin out) (row_inputs ins i) (out_lit out (table_value table i))
-    (All-weaker (IsWithin n) (IsWithin out) (λ l k. (k.0, omega arith)) (row_inputs ins i) (row_inputs_within n ins i w))
-    (omega arith, omega arith)
-
-pub rows_upto_within : (n out table : ℕ) (ins : List Lit) (k : ℕ) → AreWithin n ins → n < out → All (AreWithin out) (rows_upto table ins out k)
-rows_upto_within n out table ins zero w h = rw rows_upto-zero (All-nil (AreWithin out))
-rows_upto_within n out table ins (suc k) w h =
-    rw rows_upto-suc (All-push (AreWithin out) (rows_upto table ins out k) (row_clause table ins out k) (rows_upto_within n out table ins k w h) (row_clause_within n out table ins k w h))
-
--- the row that the inputs read as forces the output
-pub Forces-row : (a : ℕ → Bool) (n out table : ℕ) (ins : List Lit) → AreWithin n ins → n < out → Forces a out (row_clause table ins out (number a ins))
-unfolding row_clause
-Forces-row a n out table ins w h =
-    let i = number a ins in
-    let ol = out_lit out (table_value table i) in
-    let P : Lit → Type 0 = λ l. (l ≡ ol) ⊎ ((l.var < out) × (lit_value a l ≡ false)) in
-    record {
-      sign = not (table_value table i);
-      has = Contains-push (row_inputs ins i) ol;
-      others = All-push P (row_inputs ins i) ol
-          (λ k d lt. inr (omega (arith, (row_inputs_within n ins i w k d lt).1), row_inputs_false a ins i refl k d lt))
-          (inl refl);
-    }
+  pub gate_forces : (a : ℕ → Bool) → (c : List Lit) × Contains cs c × Forces a (n + 1) c
+  gate_forces a =
+      let t = value_at a in
+      let wrong = with_value a (n + 1) (not t) in
+      let right = with_value a (n + 1) t in
+      let wrong_agrees = with_value-agree n a (not t) in
+      let right_agrees = with_value-agree n a t in
+      let f = false_clause wrong cs (λ m. not_same t (sym (with_value-at a (n + 1) (not t)) ∙ d.tells wrong m ∙ early a wrong wrong_agrees)) in
+      let lits = all_false wrong f.0 f.2 in
+      let inside : AreWithin (n + 1) f.0 = All-contains (AreWithin (n + 1)) cs f.0 (d.within n w (omega arith)) f.1 in
+      ⊎_elim
+      (λ (o : (l : Lit) × Contains f.0 l × (l.var ≡ n + 1)).
+      let out : Lit = record { var = n + 1; neg = o.0.neg } in
+      let false_at : lit_value wrong o.0 ≡ false = All-contains (λ l. lit_value wrong l ≡ false) f.0 o.0 lits o.1 in (
+        f.0,
+        f.1,
+        record {
+          sign = o.0.neg;
+          has = subst (λ (l : Lit). Contains f.0 l) (same_parts o.0 out o.2 refl) o.1;
+          others = λ k z lt.
+              let m = get_or f.0 k z in
+              ⊎_elim
+              (λ (e : m.var ≡ n + 1). inl (same_parts m out e (same_neg wrong m o.0 (e ∙ sym o.2) (lits k z lt) false_at)))
+              (λ (e : m.var ≡ n + 1 → ⊥).
+              let low : m.var ≤ n = omega (arith, (inside k z lt).1) in
+              inr (omega arith, sym (lit_value-agree n a wrong m wrong_agrees low) ∙ lits k z lt))
+              (cases_eq m.var (n + 1));
+        },
+      ))
+      (λ (none : All (λ l. l.var ≡ n + 1 → ⊥) f.0).
+      let low : AreWithin n f.0 = λ k z lt. ((inside k z lt).0, omega (arith, (inside k z lt).1, none k z lt)) in
+      let m = d.holds right (with_value-at a (n + 1) t ∙ sym (early a right right_agrees)) in
+      let yes : clause_value right f.0 ≡ true = All-contains (λ c. clause_value right c ≡ true) cs f.0 (all_met right cs m) f.1 in
+      let same : clause_value wrong f.0 ≡ clause_value right f.0 = clause_value-agree n a wrong f.0 wrong_agrees low ∙ sym (clause_value-agree n a right f.0 right_agrees low) in
+      absurd (false≢true (sym f.2 ∙ same ∙ yes)))
+      (literal_in (n + 1) f.0)

@@ -1,8 +1,12 @@
 pub mod NumberLemmas
 pub mod Circuits
 pub mod Vectors
-pub mod RowLemmas
+pub mod TableLemmas
+pub mod BitLemmas
+pub mod CoverLemmas
 pub mod GateLemmas
 pub mod FreshLemmas
+pub mod OpenLemmas
 pub mod FoldLemmas
-pub mod TableLemmas
+pub mod OrderLemmas
+pub mod SharedLemmas

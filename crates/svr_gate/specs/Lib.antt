@@ -1,3 +1,7 @@
 pub mod Numbers
-pub mod Circuit
 pub mod Gates
+pub mod Keys
+pub mod Covers
+pub mod Folding
+pub mod Circuit
+pub mod Answers

@@ -1,5 +1,5 @@
 use Rattle.std.proofs.Common.{arith}
-use Rattle.svr_gate.proofs.RowLemmas.{row_count}
+use Rattle.svr_gate.proofs.BitLemmas.{row_count}
 use Rattle.svr_gate.proofs.fold.is_copy.Goals as goal
 
 pub overflow_shr-table : goal.overflow_shr-table

@@ -1,8 +1,8 @@
-use Rattle.std.proofs.Common.{◌≡◌, [], subst, sym, ap, true}
+use Rattle.std.proofs.Common.{◌≡◌, [], subst, sym, ap, true, ◌∙◌, Some, None}
 use Rattle.svr_chain.specs.declared.clause.Lit.{Lit}
 use Rattle.svr_gate.specs.Numbers.{number}
 use Rattle.svr_gate.specs.Gates.{table_value}
-use Rattle.svr_gate.specs.Circuit.{Circuit, Tells}
+use Rattle.svr_gate.specs.Circuit.{Circuit, Tells, Extends}
 use Rattle.svr_gate.proofs.NumberLemmas.{number-nil}
 use Rattle.svr_gate.proofs.Circuits.{Tells-same}
 use Rattle.svr_gate.proofs.builder.Builder.one.Goals as goal
@@ -12,7 +12,8 @@ always_tells c d l e t = subst (λ (x : Circuit). Tells x l (λ a. true)) (sym e
 
 pub invariant_of-self : goal.invariant_of-self
 invariant_of-self c =
-    let before : Circuit = record { inputs = c.self-in-None.inside.inputs; vars = c.self-in-None.inside.vars; clauses = c.self-in-None.inside.clauses.items; one = c.self-in-None.inside.one } in
+    let inside = c.self-in-None.inside in
+    let before : Circuit = record { inputs = inside.inputs; vars = inside.vars; clauses = inside.clauses.items; one = inside.one; gates = inside.gates.entries } in
     let i = c.self-in-None.invariant in
     let t = always_tells before c.fresh_gate.new.self c.in_ok-made-in-None.made c.self-in-None.view_is c.in_ok-made-in-None.ensures.value in
     record {
@@ -22,10 +23,12 @@ invariant_of-self c =
       within = i.within;
       settled = i.settled;
       one = record { within = t.within; value = t.value };
+      shared = λ k d lt. let s = i.shared k d lt in record { within = s.within; value = s.value };
     }
 
 pub returns-in_ok-made-in-None-clause-value : goal.returns-in_ok-made-in-None-clause-value
 returns-in_ok-made-in-None-clause-value c =
-    let before : Circuit = record { inputs = c.self-in-None.inside.inputs; vars = c.self-in-None.inside.vars; clauses = c.self-in-None.inside.clauses.items; one = c.self-in-None.inside.one } in
+    let inside = c.self-in-None.inside in
+    let before : Circuit = record { inputs = inside.inputs; vars = inside.vars; clauses = inside.clauses.items; one = inside.one; gates = inside.gates.entries } in
     let t = always_tells before c.fresh_gate.new.self c.in_ok-made-in-None.made c.self-in-None.view_is c.in_ok-made-in-None.ensures.value in
     record { within = t.within; value = t.value }
