@@ -2,6 +2,7 @@
 use Rattle.std.specs.Prelude.{ℕ, ℤ, Bool, List, [], ◌∷◌, Option, Some, None, map}
 use Rattle.svr_typed.specs.declared.operator.UnOp.{UnOp}
 use Rattle.svr_typed.specs.declared.operator.BinOp.{BinOp}
+use Rattle.svr_typed.specs.declared.operator.Fold.{Fold}
 use Rattle.svr_typed.specs.declared.expr.TExpr.{TExpr}
 use Rattle.svr_typed.specs.declared.expr.TNode.{TNode}
 use Rattle.svr_typed.specs.declared.expr.TRange.{TRange}
@@ -18,9 +19,13 @@ mutual
     number : ℕ → Bool → NodeTerm
     prop : ℕ → NodeTerm
     element : ℕ → ExprTerm → NodeTerm
-    size : ℕ → NodeTerm
+    -- property, second dimension, first and second index
+    cell : ℕ → ℕ → ExprTerm → ExprTerm → NodeTerm
+    -- property, second dimension
+    size : ℕ → ℕ → NodeTerm
     script : ℕ → NodeTerm
     loop_index : ℕ → NodeTerm
+    reduce : ℕ → Fold → ExprTerm → NodeTerm
     of_object : ℕ → ExprTerm → NodeTerm
     -- base, index or bounds, lowest bit number
     bit_select : ExprTerm → ExprTerm → ℤ → NodeTerm
@@ -65,9 +70,11 @@ abbrev pub node_step : TNode-F BoundTerm NodeTerm RangeTerm ExprTerm → NodeTer
 node_step (TNode-F.Number v every) = number v every
 node_step (TNode-F.Prop p) = prop p
 node_step (TNode-F.Element p e) = element p e
-node_step (TNode-F.Size p) = size p
+node_step (TNode-F.Cell p m first second) = cell p m first second
+node_step (TNode-F.Size p m) = size p m
 node_step (TNode-F.Script v) = script v
 node_step (TNode-F.Loop k) = loop_index k
+node_step (TNode-F.Reduce p op body) = reduce p op body
 node_step (TNode-F.Of o e) = of_object o e
 node_step (TNode-F.Select base first last low) = select_of base first last low
 node_step (TNode-F.Unary op e) = unary op e

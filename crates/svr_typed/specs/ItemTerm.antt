@@ -19,7 +19,8 @@ mutual
     unique : ExprTerms → ItemTerm
     implies : ExprTerm → ItemTerms → ItemTerm
     branch : ExprTerm → ItemTerms → ElseTerm → ItemTerm
-    foreach : ℕ → ItemTerms → ItemTerm
+    -- array, second dimension, number of loop variables, body
+    foreach : ℕ → ℕ → ℕ → ItemTerms → ItemTerm
     disable : ExprTerm → ItemTerm
     solve : ExprTerms → ExprTerms → ItemTerm
 
@@ -53,7 +54,7 @@ item_step (TItem-F.Plain soft e ds) = plain soft (expr_term e) (option_map dist_
 item_step (TItem-F.Unique members) = unique (expr_terms members)
 item_step (TItem-F.Implies t body) = implies (expr_term t) (items_of body)
 item_step (TItem-F.Branch t met unmet) = branch (expr_term t) (items_of met) (else_of unmet)
-item_step (TItem-F.Foreach p body) = foreach p (items_of body)
+item_step (TItem-F.Foreach p m names body) = foreach p m names (items_of body)
 item_step (TItem-F.Disable target) = disable (expr_term target)
 item_step (TItem-F.Solve first later) = solve (expr_terms first) (expr_terms later)
 

@@ -28,12 +28,12 @@ pub enum Rand {
 #[derive(Clone, Copy, Debug, PartialEq, Eq)]
 pub enum ArrayKind {
     Scalar,
-    /// A fixed array of this many elements.
+    /// A fixed array of this many elements, over all its dimensions.
     Fixed(u32),
     Dynamic,
 }
 
-/// A property of a class. `kind` is its type, or that of its elements; `first` is its initial value, as stored bits; `low` is the lowest bit number of its declared range, 0 where it has none.
+/// A property of a class. `kind` is its type, or that of its elements; `first` is its initial value, as stored bits; `low` is the lowest bit number of its declared range, 0 where it has none. `can` is true where it can be random: it is declared so, or an object's mode makes it so. `inner` is the second dimension of a fixed array that has two, else 1.
 #[derive(Debug, Drop)]
 pub struct Prop {
     pub name: Text,
@@ -42,6 +42,8 @@ pub struct Prop {
     pub array: ArrayKind,
     pub first: u64,
     pub low: i64,
+    pub can: bool,
+    pub inner: u32,
 }
 
 /// A constraint block (IEEE 1800-2017, 18.5).

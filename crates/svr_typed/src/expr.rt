@@ -5,7 +5,7 @@ ghost use Rattle.svr_typed.specs.ExprTerm as term;
 ghost use Rattle.svr_typed.specs.ExprTerm.{expr_term, node_term, range_term, bound_term, expr_terms, range_terms};
 
 use crate::memory::NoMemory;
-use crate::operator::{BinOp, UnOp};
+use crate::operator::{BinOp, Fold, UnOp};
 use sqlite_items::{Boxed, Items};
 use std::alloc::Global;
 
@@ -31,12 +31,16 @@ pub enum TNode {
     Prop(u32),
     /// An element of an array property, by its index.
     Element(u32, Boxed<TExpr>),
-    /// The number of elements of an array property: 32 bits, signed.
-    Size(u32),
+    /// An element of an array property with two dimensions (IEEE 1800-2017, 7.4.2), by the property, its second dimension, and the first and the second index.
+    Cell(u32, u32, Boxed<TExpr>, Boxed<TExpr>),
+    /// The first dimension of an array property, by the property and its second dimension: 32 bits, signed. That is its number of elements where the second dimension is 1.
+    Size(u32, u32),
     /// A script variable.
     Script(u32),
-    /// A loop variable, counted outwards from the innermost loop, from 0: 32 bits, signed.
+    /// A loop variable, or the index of a reduction, counted outwards from the innermost loop, from 0: 32 bits, signed.
     Loop(u32),
+    /// An array reduction (IEEE 1800-2017, 7.12.3) over all elements of an array property. In its body the reduction is the innermost loop.
+    Reduce(u32, Fold, Boxed<TExpr>),
     /// In a statement: a property, an element or a size of the object that this object variable has.
     Of(u32, Boxed<TExpr>),
     /// A bit-select, or with `last` a part-select (IEEE 1800-2017, 11.5.1). `low` is the lowest bit number of the declared range of `base`, 0 where it has none.
@@ -129,10 +133,27 @@ impl TNode {
         Ok(TNode::Element(prop, Boxed::new(alloc, index)?))
     }
 
-    pub fn size(prop: u32) -> TNode
-        ensures { node_term result ≡ term.size prop }
+    pub fn cell(
+        alloc: Global,
+        prop: u32,
+        inner: u32,
+        first: TExpr,
+        second: TExpr,
+    ) -> Result<TNode, NoMemory>
+        ensures { IfOk result (λ n. node_term n ≡ term.cell prop inner (expr_term first) (expr_term second)) }
     {
-        TNode::Size(prop)
+        Ok(TNode::Cell(
+            prop,
+            inner,
+            Boxed::new(alloc, first)?,
+            Boxed::new(alloc, second)?,
+        ))
+    }
+
+    pub fn size(prop: u32, inner: u32) -> TNode
+        ensures { node_term result ≡ term.size prop inner }
+    {
+        TNode::Size(prop, inner)
     }
 
     pub fn script(var: u32) -> TNode
@@ -145,6 +166,12 @@ impl TNode {
         ensures { node_term result ≡ term.loop_index depth }
     {
         TNode::Loop(depth)
+    }
+
+    pub fn reduce(alloc: Global, prop: u32, op: Fold, body: TExpr) -> Result<TNode, NoMemory>
+        ensures { IfOk result (λ n. node_term n ≡ term.reduce prop op (expr_term body)) }
+    {
+        Ok(TNode::Reduce(prop, op, Boxed::new(alloc, body)?))
     }
 
     pub fn of_object(alloc: Global, object: u32, part: TExpr) -> Result<TNode, NoMemory>

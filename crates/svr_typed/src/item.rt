@@ -48,9 +48,11 @@ pub enum TItem {
         yes: Items<TItem>,
         no: Option<Items<TItem>>,
     },
-    /// IEEE 1800-2017, 18.5.8.1
+    /// IEEE 1800-2017, 18.5.8.1. `inner` is the second dimension of the array, 1 where it has one; `names`, 1 or 2, is the number of loop variables, of which the second is the inner loop's.
     Foreach {
         array: u32,
+        inner: u32,
+        names: u8,
         body: Items<TItem>,
     },
     /// `disable soft` (IEEE 1800-2017, 18.5.14.2)
@@ -111,10 +113,15 @@ impl TItem {
         }
     }
 
-    pub fn foreach(array: u32, body: Items<TItem>) -> TItem
-        ensures { item_term result ≡ term.foreach array (item_terms body) }
+    pub fn foreach(array: u32, inner: u32, names: u8, body: Items<TItem>) -> TItem
+        ensures { item_term result ≡ term.foreach array inner names (item_terms body) }
     {
-        TItem::Foreach { array, body }
+        TItem::Foreach {
+            array,
+            inner,
+            names,
+            body,
+        }
     }
 
     pub fn disable(target: TExpr) -> TItem

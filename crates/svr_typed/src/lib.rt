@@ -17,6 +17,6 @@ pub use class::{ArrayKind, EnumMember, EnumType, FlatClass, NumType, Prop, Rand,
 pub use expr::{TBound, TExpr, TNode, TRange};
 pub use item::{Share, TDistItem, TItem};
 pub use memory::NoMemory;
-pub use operator::{BinOp, UnOp};
+pub use operator::{BinOp, Fold, UnOp};
 pub use stmt::{CallList, CallStmt, Design, TStmt, TVar, VarKind};
 pub use text::Text;
