@@ -8,7 +8,7 @@ use Rattle.svr_typed.specs.declared.class.ArrayKind.TheVariants.{Scalar, Fixed, 
 use Rattle.svr_typed.specs.ClassTerm.{FlatTerm}
 use Rattle.svr_world.specs.declared.change.Replacement.{Replacement}
 use Rattle.svr_world.specs.declared.change.Change.{Change}
-use Rattle.svr_world.specs.World.{ObjectTerm, WorldTerm, object_of}
+use Rattle.svr_world.specs.World.{ObjectTerm, WorldTerm}
 
 -- no array has more elements
 abbrev pub size_limit : ℕ
@@ -93,9 +93,3 @@ pub record FitsChange (flat : FlatTerm) (c : Change) : Type 0 where
   pub used : All (λ r. r.prop < length flat.props) c.used
   pub rising : AreRising c.used
   pub used_once : AreDistinct (props_of c.used)
-
--- the object has a class that the change fits
-pub record MayChange (w : WorldTerm) (o : ℕ) (c : Change) : Type 0 where
-  pub flat : FlatTerm
-  pub object : FitsClass flat (object_of w o)
-  pub change : FitsChange flat c

@@ -3,7 +3,7 @@
 ghost use Rattle.std.specs.Prelude.{◌≡◌, true, false, map, slice_index_or, slice_set, [], OnOk, IfOk};
 ghost use Rattle.svr_world.specs.World.{initial_numbers, with_length, with_mode, with_lists};
 
-use crate::change::Replacement;
+use crate::change::{Change, Replacement};
 use crate::memory::push;
 use sqlite_items::Items;
 use std::alloc::Global;
@@ -51,13 +51,22 @@ pub fn set_number(lists: &mut Vec<Items<u64>>, at: u32, index: u32, value: u64)
 
 /// Replaces the lists of the named properties.
 #[tactic(auto, using(crate::proofs::Kept::with_lists_last))]
-pub fn replace(lists: &mut Vec<Items<u64>>, named: Items<Replacement>)
+fn replace(lists: &mut Vec<Items<u64>>, named: Items<Replacement>)
     ensures { lists.new.items ≡ with_lists lists.old.items named }
 {
     let mut rest = named;
     while let Some(one) = rest.pop() {
         set_list(lists, one.prop, one.numbers);
     }
+}
+
+/// Replaces the lists that a change names, among the numbers and among the used values.
+pub fn apply(values: &mut Vec<Items<u64>>, used: &mut Vec<Items<u64>>, change: Change)
+    ensures values { values.new.items ≡ with_lists values.old.items change.values }
+    ensures used { used.new.items ≡ with_lists used.old.items change.used }
+{
+    replace(values, change.values);
+    replace(used, change.used);
 }
 
 /// Switches one mode, or all.

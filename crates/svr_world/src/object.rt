@@ -9,8 +9,8 @@ ghost use Rattle.svr_world.specs.Fits.{size_limit, IsShort, AreSmall, AreShort, 
 
 use crate::change::Change;
 use crate::lists::{
-    all_on, with_length, initial_values, list_at, mode_at, nothing_used, replace, set_list,
-    set_number, switch,
+    all_on, apply, initial_values, list_at, mode_at, nothing_used, set_list, set_number, switch,
+    with_length,
 };
 use sqlite_items::Items;
 use std::alloc::Global;
@@ -149,7 +149,6 @@ impl Object {
         requires rising { AreRising change.used }
         ensures { self.new ≡ object_with self.old change }
     {
-        replace(&mut self.values, change.values);
-        replace(&mut self.used, change.used);
+        apply(&mut self.values, &mut self.used, change);
     }
 }

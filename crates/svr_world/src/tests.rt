@@ -1,12 +1,12 @@
 // Objects through their calls.
 
 ghost use Rattle.std.specs.Prelude.{◌≡◌, ◌≤◌, ◌+◌, ◌-◌, ◌^◌, ℕ, IfOk};
-ghost use Rattle.svr_world.specs.Fits.{AreShort, AreSmall};
+ghost use Rattle.svr_world.specs.Fits.{AreShort, AreRising, AreSmall};
 
-use crate::object::Object;
 use crate::{Change, Replacement, Watch, World};
 use sqlite_items::Items;
 use std::alloc::Global;
+use std::process::Abort;
 use std::test::Fail;
 use svr_typed::{
     ArrayKind, Design, EnumType, FlatClass, NoMemory, NumType, Prop, Rand, TBlock, TClass, TItem,
@@ -56,6 +56,8 @@ fn prop(alloc: Global, array: ArrayKind, first: u64) -> Prop
         array,
         first,
         low: 0,
+        can: true,
+        inner: 1,
     }
 }
 
@@ -114,79 +116,139 @@ const FIXED: u32 = 1;
 
 const QUEUE: u32 = 2;
 
-#[test]
-fn an_object_starts_fresh(rt: HostRuntime) -> Result<(), Fail> {
-    let alloc = rt.alloc();
+/// A world in which the object was made.
+fn made(rt: &impl Abort, alloc: Global) -> Result<World, NoMemory> {
     let mut world = World::new(alloc, &two_vars(alloc)?)?;
     assert!(rt; !world.is_made(OBJECT));
     let class = class(alloc)?;
-    assert!(rt; world.make(alloc, OBJECT, &class).is_ok());
-    assert!(rt; world.is_made(OBJECT));
-    assert_eq!(rt; world.class_of(OBJECT), 3);
-    for (prop, size, first) in [(SCALAR, 1, 7), (FIXED, 2, 0), (QUEUE, 0, 0), (3, 0, 0)] {
-        assert_eq!(rt; world.size(OBJECT, prop), size, "size of {prop}");
-        assert_eq!(rt; world.get(OBJECT, prop, 0), first, "first of {prop}");
+    world.make(alloc, OBJECT, &class)?;
+    Ok(world)
+}
+
+/// The numbers at these places: property, index, number.
+fn has_numbers(rt: &impl Abort, world: &World, table: &[(u32, u32, u64)]) {
+    for (prop, index, number) in table {
+        let found = world.get(OBJECT, *prop, *index);
+        assert_eq!(rt; found, *number);
     }
-    assert_eq!(rt; world.values(OBJECT).len(), 3);
-    assert!(rt; world.prop_mode(OBJECT, QUEUE) && world.block_mode(OBJECT, 0));
+}
+
+/// The sizes of the three properties, and of one that is none.
+fn has_sizes(rt: &impl Abort, world: &World, sizes: [u32; 4]) {
+    for (prop, size) in sizes.iter().enumerate() {
+        let found = world.size(OBJECT, prop as u32);
+        assert_eq!(rt; found, *size);
+    }
+}
+
+#[test]
+fn an_object_starts_with_initial_values(rt: HostRuntime) -> Result<(), Fail> {
+    let world = made(&rt, rt.alloc())?;
+    assert!(rt; world.is_made(OBJECT) && !world.is_made(0));
+    assert_eq!(rt; world.class_of(OBJECT), 3);
+    has_sizes(&rt, &world, [1, 2, 0, 0]);
+    has_numbers(
+        &rt,
+        &world,
+        &[(SCALAR, 0, 7), (FIXED, 0, 0), (FIXED, 1, 0), (3, 0, 0)],
+    );
+    assert!(rt; world.prop_mode(OBJECT, SCALAR) && world.prop_mode(OBJECT, QUEUE));
+    assert!(rt; !world.prop_mode(OBJECT, 3));
+    assert!(rt; world.block_mode(OBJECT, 0) && !world.block_mode(OBJECT, 1));
     assert!(rt; world.used(OBJECT, SCALAR).is_empty());
+    assert_eq!(rt; world.values(OBJECT).len(), 3);
     assert_eq!(rt; world.script(), [0, 0].as_slice());
     Ok(())
 }
 
 #[test]
-fn a_world_keeps_what_it_is_told(rt: HostRuntime) -> Result<(), Fail> {
+fn writes_and_sizes_stay(rt: HostRuntime) -> Result<(), Fail> {
     let alloc = rt.alloc();
-    let mut world = World::new(alloc, &two_vars(alloc)?)?;
-    let class = class(alloc)?;
-    assert!(rt; world.make(alloc, OBJECT, &class).is_ok());
-    assert!(rt; world.is_made(OBJECT));
-    world.set(OBJECT, FIXED, 1, 9);
-    assert!(rt; world.is_made(OBJECT));
-    world.set(OBJECT, FIXED, 2, 8);
-    assert!(rt; world.is_made(OBJECT));
-    assert!(rt; world.resize(alloc, OBJECT, QUEUE, 3).is_ok());
-    assert!(rt; world.is_made(OBJECT));
-    world.set(OBJECT, QUEUE, 2, 5);
-    for (prop, index, number) in [(FIXED, 0, 0), (FIXED, 1, 9), (FIXED, 2, 0), (QUEUE, 2, 5)] {
-        assert_eq!(rt; world.get(OBJECT, prop, index), number, "at {prop} {index}");
+    let mut world = made(&rt, alloc)?;
+    for (prop, index, number) in [(FIXED, 1, 9), (FIXED, 2, 8), (QUEUE, 0, 4), (3, 0, 5)] {
+        assert!(rt; world.is_made(OBJECT));
+        world.set(OBJECT, prop, index, number);
     }
-    assert!(rt; world.is_made(OBJECT));
-    world.rand_mode(OBJECT, Some(FIXED), false);
-    assert!(rt; world.prop_mode(OBJECT, SCALAR) && !world.prop_mode(OBJECT, FIXED));
-    assert!(rt; world.is_made(OBJECT));
-    world.constraint_mode(OBJECT, None, false);
-    assert!(rt; !world.block_mode(OBJECT, 0));
+    has_sizes(&rt, &world, [1, 2, 0, 0]);
+    has_numbers(&rt, &world, &[(FIXED, 0, 0), (FIXED, 1, 9), (FIXED, 2, 0)]);
+    for (size, last) in [(3, 0), (2, 6), (3, 0)] {
+        assert!(rt; world.is_made(OBJECT));
+        world.resize(alloc, OBJECT, QUEUE, size)?;
+        assert_eq!(rt; world.get(OBJECT, QUEUE, size - 1), last);
+        assert!(rt; world.is_made(OBJECT));
+        world.set(OBJECT, QUEUE, 1, 6);
+        has_sizes(&rt, &world, [1, 2, size, 0]);
+    }
+    has_numbers(&rt, &world, &[(FIXED, 1, 9), (QUEUE, 1, 6), (QUEUE, 2, 0)]);
     world.script_set(0, 1);
+    world.script_set(2, 5);
+    assert_eq!(rt; world.script(), [1, 0].as_slice());
     assert_eq!(rt; world.script_get(0), 1);
     Ok(())
 }
 
-fn with_lists(prop: u32, numbers: Items<u64>) -> Replacement
-    ensures { (result.prop ≡ prop) × (result.numbers ≡ numbers) }
-{
-    Replacement { prop, numbers }
+#[test]
+fn modes_are_switched(rt: HostRuntime) -> Result<(), Fail> {
+    let mut world = made(&rt, rt.alloc())?;
+    let table = [
+        (Some(FIXED), false, [true, false, true]),
+        (None, false, [false, false, false]),
+        (Some(QUEUE), true, [false, false, true]),
+        (Some(3), true, [false, false, true]),
+    ];
+    for (prop, on, modes) in table {
+        assert!(rt; world.is_made(OBJECT));
+        world.rand_mode(OBJECT, prop, on);
+        for (prop, mode) in modes.iter().enumerate() {
+            let found = world.prop_mode(OBJECT, prop as u32);
+            assert_eq!(rt; found, *mode);
+        }
+    }
+    assert!(rt; world.is_made(OBJECT));
+    world.constraint_mode(OBJECT, None, false);
+    assert!(rt; !world.block_mode(OBJECT, 0));
+    Ok(())
 }
 
-/// The queue has 5 and 6, and the values 1 and 4 of the scalar are used.
+/// The scalar is 2, the queue has 5 and 6, and the values 1 and 4 of the scalar are used.
 fn change(alloc: Global) -> Result<Change, NoMemory>
-    ensures { IfOk result (λ change. AreShort change.values) }
+    ensures { IfOk result (λ change. AreShort change.values × AreRising change.used) }
 {
     let mut values = Items::<Replacement>::new(alloc);
-    values.push(with_lists(QUEUE, Items::from_slice(alloc, &[5, 6])?))?;
+    values.push(Replacement {
+        prop: SCALAR,
+        numbers: Items::from_slice(alloc, &[2])?,
+    })?;
+    values.push(Replacement {
+        prop: QUEUE,
+        numbers: Items::from_slice(alloc, &[5, 6])?,
+    })?;
     let mut used = Items::<Replacement>::new(alloc);
-    used.push(with_lists(SCALAR, Items::from_slice(alloc, &[1, 4])?))?;
+    used.push(Replacement {
+        prop: SCALAR,
+        numbers: Items::from_slice(alloc, &[1, 4])?,
+    })?;
     Ok(Change { values, used })
 }
 
 #[test]
 fn a_change_replaces_what_it_names(rt: HostRuntime) -> Result<(), Fail> {
     let alloc = rt.alloc();
-    let mut object = Object::fresh(alloc, 3, &class(alloc)?)?;
-    object.change(change(alloc)?);
-    assert_eq!(rt; object.size(QUEUE), 2);
-    assert_eq!(rt; object.number(QUEUE, 1), 6);
-    assert_eq!(rt; object.number(SCALAR, 0), 7);
-    assert_eq!(rt; object.used(SCALAR), [1, 4].as_slice());
+    let mut world = made(&rt, alloc)?;
+    let change = change(alloc)?;
+    assert!(rt; world.is_made(OBJECT));
+    world.commit(OBJECT, change);
+    has_sizes(&rt, &world, [1, 2, 2, 0]);
+    has_numbers(
+        &rt,
+        &world,
+        &[(SCALAR, 0, 2), (FIXED, 0, 0), (QUEUE, 0, 5), (QUEUE, 1, 6)],
+    );
+    assert_eq!(rt; world.used(OBJECT, SCALAR), [1, 4].as_slice());
+    assert!(rt; world.used(OBJECT, QUEUE).is_empty());
+    let class = class(alloc)?;
+    world.make(alloc, OBJECT, &class)?;
+    assert!(rt; world.used(OBJECT, SCALAR).is_empty());
+    has_numbers(&rt, &world, &[(SCALAR, 0, 7)]);
     Ok(())
 }

@@ -6,7 +6,7 @@ ghost use Rattle.std.specs.List.{All};
 ghost use Rattle.std.specs.List.Sorted.{IsStrictlyIncreasing};
 ghost use Rattle.svr_typed.specs.ClassTerm.{flat_term};
 ghost use Rattle.svr_world.specs.World.{found_object, object_of, IsMade, number_at, size_of, used_of, is_prop_on, is_block_on, declared_classes, blank_world, with_object, without_object, with_new_object, with_number, with_size, with_rand_mode, with_block_mode, with_script, with_change};
-ghost use Rattle.svr_world.specs.Fits.{size_limit, IsShort, AreSmall, MayChange};
+ghost use Rattle.svr_world.specs.Fits.{size_limit, IsShort, AreSmall, AreShort, AreRising};
 
 use crate::change::Change;
 use crate::memory::push;
@@ -256,10 +256,11 @@ impl World {
         }
     }
 
-    /// Replaces the lists that the change names, and no other.
+    /// Replaces the lists that the change names, and no other. It takes no memory and cannot fail.
     pub fn commit(&mut self, object: u32, change: Change)
         requires made { IsMade self.old object }
-        requires fits { MayChange self.old object change }
+        requires short { AreShort change.values }
+        requires rising { AreRising change.used }
         ensures { self.new ≡ with_change self.old object change }
     {
         let Some(mut found) = self.take(object) else {

@@ -6,6 +6,6 @@ use Rattle.svr_world.proofs.object.Object.change.Goals as goal
 
 pub invariant_of-self : goal.invariant_of-self
 invariant_of-self c = (
-  All-same IsShort _ _ c.replace.ensures (with_lists_all IsShort _ _ c.self.invariant.0 c.requires.short),
-  All-same IsStrictlyIncreasing _ _ c.replace-2.ensures (with_lists_all IsStrictlyIncreasing _ _ c.self.invariant.1 c.requires.rising),
+  All-same IsShort _ _ c.apply.ensures.values (with_lists_all IsShort _ _ c.self.invariant.0 c.requires.short),
+  All-same IsStrictlyIncreasing _ _ c.apply.ensures.used (with_lists_all IsStrictlyIncreasing _ _ c.self.invariant.1 c.requires.rising),
 )

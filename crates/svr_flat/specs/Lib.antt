@@ -1,0 +1,3 @@
+pub mod Flat
+pub mod Lineage
+pub mod Parts
