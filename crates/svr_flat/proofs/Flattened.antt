@@ -108,3 +108,22 @@ pub parts_step : (cs : List ClassTerm) (old new : List ℕ) (n : ℕ) (before af
     → classes_over cs old before ≡ whole → classes_over cs new after ≡ whole
 parts_step cs old new n before after whole popped derived told =
     ap (classes_over cs new) derived ∙ sym (classes_over-push cs new n before) ∙ sym (ap (λ ns. classes_over cs ns before) popped) ∙ told
+
+-- ---- laws of the definition
+
+is_below : (n b : ℕ) → b < n → below n (Some b) ≡ Some b
+is_below n b less = by (nat_lt b n) refl
+  where
+    by : (test : Bool) → nat_lt b n ≡ test → (if test then Some b else None) ≡ Some b
+    by true is = refl
+    by false is = absurd (grind (arith, nat_tests))
+
+pub over_base : (cs : List ClassTerm) (n b : ℕ) (c : ClassTerm) → slice_get cs n ≡ Some c → c.base ≡ Some b → b < n → flat_class_of cs n ≡ derived_class (flat_class_of cs b) c
+over_base cs n b c at base less =
+    let above : base_before cs n ≡ Some b = ap (λ o. below n (class_base o)) at ∙ ap (below n) base ∙ is_below n b less in
+    flat_class_of_is cs n ∙ (λ i. derived_if (flat_if cs (above i)) (at i))
+
+pub over_none : (cs : List ClassTerm) (n : ℕ) (c : ClassTerm) → slice_get cs n ≡ Some c → c.base ≡ None → flat_class_of cs n ≡ record { props = c.props; blocks = c.blocks }
+over_none cs n c at base =
+    let above : base_before cs n ≡ None = ap (λ o. below n (class_base o)) at ∙ ap (below n) base in
+    flat_class_of_is cs n ∙ (λ i. derived_if (flat_if cs (above i)) (at i))
