@@ -1,6 +1,6 @@
 -- A constant expression has one value, whatever is read.
 use Rattle.std.proofs.Common.{◌≡◌, ℕ, max, Bool, ◌&&◌, not, List, [], None, refl, ap}
-use Rattle.svr_typed.specs.ExprTerm.{ExprTerm, typed, NodeTerm, number, prop, element, size, script, loop_index, of_object, bit_select, part_select, unary, binary, choice, inside, join, copies, sign, ExprTerms, no_exprs, more_exprs, RangeTerm, one, span, RangeTerms, no_ranges, more_ranges, BoundTerm, value, dollar}
+use Rattle.svr_typed.specs.ExprTerm.{ExprTerm, typed, NodeTerm, number, prop, element, cell, size, script, loop_index, reduce, of_object, bit_select, part_select, unary, binary, choice, inside, join, copies, sign, ExprTerms, no_exprs, more_exprs, RangeTerm, one, span, RangeTerms, no_ranges, more_ranges, BoundTerm, value, dollar}
 use Rattle.svr_eval.specs.Reading.{Reading, blank}
 use Rattle.svr_eval.specs.Typed.{IsConstant, NodeIsConstant, AreConstant, RangesAreConstant, RangeIsConstant, BoundIsConstant}
 use Rattle.svr_eval.specs.Value.{Operand, size_of, sign_of, val, node_val, joined, fits_some, fits, is_from, is_up_to, operand_of, alone, are_equal, is_below, property_of, node_property}
@@ -15,9 +15,11 @@ no_property : (n : NodeTerm) → NodeIsConstant n → node_property n ≡ None
 no_property (number v every) h = refl
 no_property (prop p) h = absurd h
 no_property (element p e) h = absurd h
-no_property (size p) h = absurd h
+no_property (cell p m first second) h = absurd h
+no_property (size p m) h = absurd h
 no_property (script v) h = absurd h
 no_property (loop_index k) h = absurd h
+no_property (reduce p op body) h = absurd h
 no_property (of_object o e) h = absurd h
 no_property (bit_select base first low) h = absurd h
 no_property (part_select base first last low) h = absurd h
@@ -49,9 +51,11 @@ module _ (a : Reading) (env : List ℕ) where
     constant_node (number v every) from signed w s h = refl
     constant_node (prop p) from signed w s h = absurd h
     constant_node (element p e) from signed w s h = absurd h
-    constant_node (size p) from signed w s h = absurd h
+    constant_node (cell p m first second) from signed w s h = absurd h
+    constant_node (size p m) from signed w s h = absurd h
     constant_node (script v) from signed w s h = absurd h
     constant_node (loop_index k) from signed w s h = absurd h
+    constant_node (reduce p op body) from signed w s h = absurd h
     constant_node (of_object o e) from signed w s h = absurd h
     constant_node (bit_select base first low) from signed w s h = absurd h
     constant_node (part_select base first last low) from signed w s h = absurd h

@@ -1,11 +1,13 @@
 -- Expressions with their values and items with their truth, worked out by hand from the standard's rules.
-use Rattle.std.specs.Prelude.{◌==◌, ◌^◌, ℕ, zero, suc, pos, Bool, true, false, List, [], ◌∷◌, None, Some}
-use Rattle.svr_typed.specs.declared.operator.UnOp.{UnOp}
-use Rattle.svr_typed.specs.declared.operator.UnOp.TheVariants as un
-use Rattle.svr_typed.specs.declared.operator.BinOp.{BinOp}
-use Rattle.svr_typed.specs.declared.operator.BinOp.TheVariants as bin
-use Rattle.svr_typed.specs.declared.item.Share.TheVariants as share
-use Rattle.svr_typed.specs.ExprTerm.{ExprTerm, typed, NodeTerm, number, prop, element, size, script, loop_index, bit_select, part_select, unary, binary, choice, inside, join, copies, sign, exprs_of, RangeTerm, one, span, ranges_of, value, dollar}
+use Rattle.std.specs.Prelude.{◌==◌, ◌^◌, ℕ, pos, Bool, true, false, List, [], ◌∷◌, None, Some, length, slice_index, slice_index_or}
+use Rattle.svr_operator.specs.declared.UnOp.{UnOp}
+use Rattle.svr_operator.specs.declared.UnOp.TheVariants as un
+use Rattle.svr_operator.specs.declared.BinOp.{BinOp}
+use Rattle.svr_operator.specs.declared.BinOp.TheVariants as bin
+use Rattle.svr_operator.specs.declared.Fold.{Fold}
+use Rattle.svr_operator.specs.declared.Fold.TheVariants as fold
+use Rattle.svr_operator.specs.declared.Share.TheVariants as share
+use Rattle.svr_typed.specs.ExprTerm.{ExprTerm, typed, NodeTerm, number, prop, element, cell, size, script, loop_index, reduce, bit_select, part_select, unary, binary, choice, inside, join, copies, sign, exprs_of, RangeTerm, one, span, ranges_of, value, dollar}
 use Rattle.svr_typed.specs.ItemTerm.{DistTerm, ItemTerm, plain, unique, implies, branch, foreach, disable, solve, items_of, no_else, else_items}
 use Rattle.svr_eval.specs.Reading.{Reading}
 use Rattle.svr_eval.specs.Value.{node_size, node_sign, alone}
@@ -51,22 +53,23 @@ among l rs = form (inside l (ranges_of rs))
 abbrev pub from_to : ExprTerm → ExprTerm → RangeTerm
 from_to low high = span (value low) (value high)
 
--- ---- what is read: property 0 is an array of bytes 10, 20, 30, property 1 is 200 in bit [7:0]; script variable 0 is 9; the loops stand at 1 and, inside, at 2
+-- ---- what is read: an array of bytes, a scalar of bit [7:0], and of its arrays one with the dimensions [2][3], one of two elements, and one of none; script variable 0 is 9; the loops stand at 1 and, inside, at 2
 
-abbrev pub numbers : ℕ → ℕ → ℕ
-numbers zero zero = 10
-numbers zero (suc zero) = 20
-numbers zero (suc (suc zero)) = 30
-numbers zero (suc (suc (suc i))) = 0
-numbers (suc p) zero = 200
-numbers (suc p) (suc i) = 0
-
-abbrev pub sizes_read : ℕ → ℕ
-sizes_read zero = 3
-sizes_read (suc p) = 1
+abbrev pub numbers : List (List ℕ)
+numbers =
+    (10 ∷ 20 ∷ 30 ∷ [])
+    ∷ (200 ∷ [])
+    ∷ (11 ∷ 12 ∷ 13 ∷ 21 ∷ 22 ∷ 23 ∷ [])
+    ∷ (200 ∷ 100 ∷ [])
+    ∷ []
+    ∷ []
 
 abbrev pub sample : Reading
-sample = record { element = numbers; size = sizes_read; script = λ v. 9 }
+sample = record {
+  element = λ p i. slice_index (slice_index_or numbers p []) i;
+  size = λ p. length (slice_index_or numbers p []);
+  script = λ v. 9;
+}
 
 abbrev pub loops : List ℕ
 loops = 1 ∷ 2 ∷ []
@@ -79,6 +82,19 @@ x = typed 8 false (prop 1)
 
 abbrev pub at_index : ExprTerm → ExprTerm
 at_index i = typed 8 true (element 0 i)
+
+abbrev pub index : ℕ → ExprTerm
+index k = form (loop_index k)
+
+abbrev pub at_cell : ExprTerm → ExprTerm → ExprTerm
+at_cell i j = typed 8 false (cell 2 3 i j)
+
+-- the elements of the array of this place, over which a reduction runs
+abbrev pub element_of : ℕ → ExprTerm
+element_of p = typed 8 false (element p (index 0))
+
+abbrev pub fold_by : Fold → ℕ → ExprTerm → ExprTerm
+fold_by op p body = form (reduce p op body)
 
 -- ---- expressions
 
@@ -240,9 +256,60 @@ selects =
     -- the loops outwards
     ∷ (at_index (form (loop_index 0)) gives 30)
     ∷ (form (loop_index 1) gives 1)
-    ∷ (form (size 0) gives 3)
+    ∷ (form (size 0 1) gives 3)
     ∷ (typed 8 false (script 0) gives 9)
     ∷ []
+
+-- rows 11, 12, 13 and 21, 22, 23 (7.4.2)
+abbrev pub cells : List Example
+cells =
+    (at_cell (int 0) (int 0) gives 11)
+    ∷ (at_cell (int 0) (int 2) gives 13)
+    ∷ (at_cell (int 1) (int 0) gives 21)
+    ∷ (at_cell (int 1) (int 2) gives 23)
+    -- outside the second dimension, though 0 * 3 + 3 is the place of 21
+    ∷ (at_cell (int 0) (int 3) gives 0)
+    -- outside the first
+    ∷ (at_cell (int 2) (int 0) gives 0)
+    -- below 0, though 1 * 3 - 1 is the place of 13, and -1 * 3 + 5 too
+    ∷ (at_cell (int 1) (minus 1) gives 0)
+    ∷ (at_cell (minus 1) (int 5) gives 0)
+    -- the number of rows
+    ∷ (form (size 2 3) gives 2)
+    ∷ []
+
+-- at the size and sign of the body (7.12.3)
+abbrev pub reductions : List Example
+reductions =
+    -- 200 + 100 at 8 bits, whatever the context has, and at 32
+    (fold_by fold.Sum 3 (element_of 3) gives 44)
+    ∷ (of2 (fold_by fold.Sum 3 (element_of 3)) bin.Add (int 0) gives 44)
+    ∷ (fold_by fold.Sum 3 (of2 (element_of 3) bin.Add (bits 32 0)) gives 300)
+    -- 20000 modulo 256
+    ∷ (fold_by fold.Product 3 (element_of 3) gives 32)
+    -- c8 and 64 in base 16
+    ∷ (fold_by fold.And 3 (element_of 3) gives 64)
+    ∷ (fold_by fold.Or 3 (element_of 3) gives 236)
+    ∷ (fold_by fold.Xor 3 (element_of 3) gives 172)
+    -- -20, -10 and 0 as bytes, and their sum in a signed context
+    ∷ (fold_by fold.Sum 0 (of2 (at_index (index 0)) bin.Subtract (s8 30)) gives 226)
+    ∷ (of2 (fold_by fold.Sum 0 (of2 (at_index (index 0)) bin.Subtract (s8 30))) bin.Add (int 0) gives 4294967266)
+    -- all elements of both dimensions
+    ∷ (fold_by fold.Sum 2 (element_of 2) gives 102)
+    -- no element
+    ∷ (fold_by fold.Sum 4 (element_of 4) gives 0)
+    ∷ (fold_by fold.Product 4 (element_of 4) gives 1)
+    ∷ (fold_by fold.And 4 (element_of 4) gives 255)
+    ∷ (fold_by fold.Or 4 (element_of 4) gives 0)
+    ∷ (fold_by fold.Xor 4 (element_of 4) gives 0)
+    -- the reduction is the innermost loop: 0 + 1, and 2 + 2 of the loop around it
+    ∷ (fold_by fold.Sum 3 (index 0) gives 1)
+    ∷ (fold_by fold.Sum 3 (index 1) gives 4)
+    ∷ []
+
+-- `{2'sb11 {1'b1}}`, of which the count is -1, and `{2'b11 {1'b1}}` (11.4.12.1)
+abbrev pub counted_by : Bool → ExprTerm
+counted_by signed = typed 3 false (copies (typed 2 signed (number 3 false)) (exprs_of (bits 1 1 ∷ [])))
 
 -- each member by its own pair of sizes and signs, an array by its elements (11.4.13)
 abbrev pub memberships : List Example
@@ -309,9 +376,16 @@ items =
     ∷ (branch (u8 0) (items_of (stated (u8 1) ∷ [])) (else_items (items_of (stated (u8 0) ∷ []))) is false)
     ∷ (branch (u8 0) (items_of (stated (u8 0) ∷ [])) no_else is true)
     -- the indexes 0, 1 and 2 (18.5.8.1)
-    ∷ (foreach 0 (items_of (stated (of2 (form (loop_index 0)) bin.Less (int 3)) ∷ [])) is true)
-    ∷ (foreach 0 (items_of (stated (of2 (form (loop_index 0)) bin.Less (int 2)) ∷ [])) is false)
-    ∷ (foreach 0 (items_of (stated (of2 (at_index (form (loop_index 0))) bin.Greater (form (loop_index 0))) ∷ [])) is true)
+    ∷ (foreach 0 1 1 (items_of (stated (of2 (index 0) bin.Less (int 3)) ∷ [])) is true)
+    ∷ (foreach 0 1 1 (items_of (stated (of2 (index 0) bin.Less (int 2)) ∷ [])) is false)
+    ∷ (foreach 0 1 1 (items_of (stated (of2 (at_index (index 0)) bin.Greater (index 0)) ∷ [])) is true)
+    -- one name over the two rows
+    ∷ (foreach 2 3 1 (items_of (stated (of2 (index 0) bin.Less (int 2)) ∷ [])) is true)
+    ∷ (foreach 2 3 1 (items_of (stated (of2 (index 0) bin.Less (int 1)) ∷ [])) is false)
+    -- two names, the second one inside: i * 10 + j + 11
+    ∷ (foreach 2 3 2 (items_of (stated (of2 (at_cell (index 1) (index 0)) bin.Equal (of2 (of2 (of2 (index 1) bin.Multiply (int 10)) bin.Add (index 0)) bin.Add (int 11))) ∷ [])) is true)
+    ∷ (foreach 2 3 2 (items_of (stated (of2 (index 1) bin.Less (int 2)) ∷ [])) is true)
+    ∷ (foreach 2 3 2 (items_of (stated (of2 (index 0) bin.Less (int 2)) ∷ [])) is false)
     ∷ (disable x is true)
     ∷ (solve (exprs_of (x ∷ [])) (exprs_of (array ∷ [])) is true)
     ∷ []

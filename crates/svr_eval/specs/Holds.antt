@@ -1,7 +1,7 @@
 -- Whether a constraint item holds (IEEE 1800-2017, 18.5).
-use Rattle.std.specs.Prelude.{ℕ, zero, suc, ◌+◌, ◌<◌, Bool, true, false, not, ◌&&◌, ◌||◌, if◌then◌else◌, List, [], ◌∷◌, ◌++◌, Option, None, Some, ⊤}
+use Rattle.std.specs.Prelude.{◌≡◌, ◌==◌, ℕ, zero, suc, ◌+◌, ◌/◌, ◌≤◌, Bool, true, false, not, ◌&&◌, ◌||◌, if◌then◌else◌, List, [], ◌∷◌, ◌++◌, Option, None, Some, ⊤, ◌⊎◌}
 use Rattle.std.specs.List.{list_any}
-use Rattle.svr_typed.specs.declared.item.Share.{Share}
+use Rattle.svr_operator.specs.declared.Share.{Share}
 use Rattle.svr_typed.specs.ExprTerm.{ExprTerm, ExprTerms, no_exprs, more_exprs}
 use Rattle.svr_typed.specs.ItemTerm.{DistTerm, ItemTerm, plain, unique, implies, branch, foreach, disable, solve, ItemTerms, no_items, more_items, ElseTerm, no_else, else_items}
 use Rattle.svr_eval.specs.Reading.{Reading}
@@ -12,6 +12,10 @@ use Rattle.svr_eval.specs.Typed.{IsTyped, AreTyped, RangeIsTyped, CanRead, AllCa
 abbrev pub all_below : ℕ → (ℕ → Bool) → Bool
 all_below zero f = true
 all_below (suc n) f = all_below n f && f n
+
+-- A second loop variable runs over the second dimension, inside the first one's loop (18.5.8.1).
+abbrev pub each_in_row : ℕ → ℕ → (List ℕ → Bool) → List ℕ → Bool
+each_in_row m names is_one env = if names == 2 then all_below m (λ j. is_one (env ++ j ∷ [])) else is_one env
 
 -- no two of them are equal
 abbrev pub are_distinct : List Operand → Bool
@@ -54,7 +58,7 @@ module _ (a : Reading) where
     holds env (unique members) = are_distinct (operands env members)
     holds env (implies t body) = not (is_set (alone a env t)) || all_hold env body
     holds env (branch t met unmet) = if is_set (alone a env t) then all_hold env met else else_holds env unmet
-    holds env (foreach p body) = all_below (a.size p) (λ i. all_hold (env ++ i ∷ []) body)
+    holds env (foreach p m names body) = all_below (a.size p / m) (λ i. each_in_row m names (λ indexes. all_hold indexes body) (env ++ i ∷ []))
     holds env (disable target) = true
     holds env (solve first later) = true
 
@@ -86,7 +90,7 @@ abbrev mutual
   ItemIsTyped (unique members) = AreTyped members
   ItemIsTyped (implies t body) = IsTyped t × ItemsAreTyped body
   ItemIsTyped (branch t met unmet) = IsTyped t × ItemsAreTyped met × ElseIsTyped unmet
-  ItemIsTyped (foreach p body) = ItemsAreTyped body
+  ItemIsTyped (foreach p m names body) = (1 ≤ m) × ((names ≡ 1) ⊎ (names ≡ 2)) × ItemsAreTyped body
   ItemIsTyped (disable target) = IsTyped target
   ItemIsTyped (solve first later) = AreTyped first × AreTyped later
 
@@ -120,7 +124,7 @@ module _ (a : Reading) where
     ItemCanRead depth (unique members) = AllCanRead a depth members
     ItemCanRead depth (implies t body) = CanRead a depth t × ItemsCanRead depth body
     ItemCanRead depth (branch t met unmet) = CanRead a depth t × ItemsCanRead depth met × ElseCanRead depth unmet
-    ItemCanRead depth (foreach p body) = (depth < 256) × ItemsCanRead (depth + 1) body
+    ItemCanRead depth (foreach p m names body) = (depth + names ≤ 256) × ItemsCanRead (depth + names) body
     ItemCanRead depth (disable target) = ⊤
     ItemCanRead depth (solve first later) = ⊤
 

@@ -1,11 +1,13 @@
 -- What each operator gives, on values that are already there (IEEE 1800-2017, 11.4), and the size and sign of its result (11.6.1, 11.8.1).
 -- w is the width at which it is computed, s whether its operands are taken as signed.
-use Rattle.std.specs.Prelude.{◌==◌, ℕ, ◌-◌, ◌%◌, ◌^◌, max, Bool, true, false, not, ◌&&◌, ◌||◌, count_ones}
+use Rattle.std.specs.Prelude.{◌==◌, ℕ, zero, suc, ◌-◌, ◌%◌, ◌^◌, max, Bool, true, false, not, ◌&&◌, ◌||◌, count_ones}
 use Rattle.svr_num.specs.Num.{add_of, sub_of, mul_of, div_of, rem_of, neg_of, not_of, and_of, or_of, xor_of, shl_of, shr_of, sar_of, less_of}
-use Rattle.svr_typed.specs.declared.operator.UnOp.{UnOp}
-use Rattle.svr_typed.specs.declared.operator.UnOp.TheVariants as un
-use Rattle.svr_typed.specs.declared.operator.BinOp.{BinOp}
-use Rattle.svr_typed.specs.declared.operator.BinOp.TheVariants as bin
+use Rattle.svr_operator.specs.declared.UnOp.{UnOp}
+use Rattle.svr_operator.specs.declared.UnOp.TheVariants as un
+use Rattle.svr_operator.specs.declared.BinOp.{BinOp}
+use Rattle.svr_operator.specs.declared.BinOp.TheVariants as bin
+use Rattle.svr_operator.specs.declared.Fold.{Fold}
+use Rattle.svr_operator.specs.declared.Fold.TheVariants as f
 use Rattle.svr_eval.specs.declared.operator.Arithmetic.{Arithmetic}
 use Rattle.svr_eval.specs.declared.operator.Arithmetic.TheVariants as a
 use Rattle.svr_eval.specs.declared.operator.Shift.{Shift}
@@ -115,6 +117,27 @@ reduction_of r.Or w x = not (x == 0)
 reduction_of r.Nor w x = x == 0
 reduction_of r.Xor w x = count_ones x % 2 == 1
 reduction_of r.Xnor w x = not (count_ones x % 2 == 1)
+
+-- the operator of an array reduction (7.12.3)
+abbrev pub fold_operator : Fold → Arithmetic
+fold_operator f.Sum = a.Add
+fold_operator f.Product = a.Multiply
+fold_operator f.And = a.And
+fold_operator f.Or = a.Or
+fold_operator f.Xor = a.Xor
+
+-- what it gives where there is no element
+abbrev pub fold_start : Fold → ℕ → ℕ
+fold_start f.Sum w = 0
+fold_start f.Product w = 1
+fold_start f.And w = 2 ^ w - 1
+fold_start f.Or w = 0
+fold_start f.Xor w = 0
+
+-- the reduction of so many numbers of w bits, from the first one on
+abbrev pub fold_of : Fold → ℕ → ℕ → (ℕ → ℕ) → ℕ
+fold_of op w zero number = fold_start op w
+fold_of op w (suc n) number = arithmetic_of (fold_operator op) w false (fold_of op w n number) (number n)
 
 abbrev pub binary_size : BinaryKind → ℕ → ℕ → ℕ
 binary_size (InContext f) m n = max m n

@@ -1,7 +1,7 @@
 -- The trees whose stored sizes and signs are right, and those that an assignment and some loops can serve.
-use Rattle.std.specs.Prelude.{◌≡◌, ◌≤◌, ◌<◌, ◌^◌, ◌*◌, ℕ, ℤ, pos, ◌-ℤ◌, ◌+ℤ◌, [], ⊤}
+use Rattle.std.specs.Prelude.{◌≡◌, ◌≤◌, ◌<◌, ◌^◌, ◌+◌, ◌*◌, ℕ, ℤ, pos, ◌-ℤ◌, ◌+ℤ◌, [], ⊤}
 use Rattle.svr_num.specs.Num.{read_of}
-use Rattle.svr_typed.specs.ExprTerm.{ExprTerm, typed, NodeTerm, number, prop, element, size, script, loop_index, of_object, bit_select, part_select, unary, binary, choice, inside, join, copies, sign, ExprTerms, no_exprs, more_exprs, RangeTerm, one, span, RangeTerms, no_ranges, more_ranges, BoundTerm, value, dollar}
+use Rattle.svr_typed.specs.ExprTerm.{ExprTerm, typed, NodeTerm, number, prop, element, cell, size, script, loop_index, reduce, of_object, bit_select, part_select, unary, binary, choice, inside, join, copies, sign, ExprTerms, no_exprs, more_exprs, RangeTerm, one, span, RangeTerms, no_ranges, more_ranges, BoundTerm, value, dollar}
 use Rattle.svr_eval.specs.Reading.{Reading, blank}
 use Rattle.svr_eval.specs.Value.{size_of, node_size, sizes, sign_of, node_sign, alone}
 
@@ -15,9 +15,11 @@ abbrev mutual
   NodeIsConstant (number v every) = ⊤
   NodeIsConstant (prop p) = ⊥
   NodeIsConstant (element p e) = ⊥
-  NodeIsConstant (size p) = ⊥
+  NodeIsConstant (cell p m first second) = ⊥
+  NodeIsConstant (size p m) = ⊥
   NodeIsConstant (script v) = ⊥
   NodeIsConstant (loop_index k) = ⊥
+  NodeIsConstant (reduce p op body) = ⊥
   NodeIsConstant (of_object o e) = ⊥
   NodeIsConstant (bit_select base first low) = ⊥
   NodeIsConstant (part_select base first last low) = ⊥
@@ -59,10 +61,12 @@ abbrev mutual
   NodeIsTyped w (number v every) = v < 2 ^ w
   NodeIsTyped w (prop p) = ⊤
   NodeIsTyped w (element p e) = IsTyped e
-  NodeIsTyped w (size p) = ⊤
+  NodeIsTyped w (cell p m first second) = (1 ≤ m) × IsTyped first × IsTyped second
+  NodeIsTyped w (size p m) = 1 ≤ m
   NodeIsTyped w (script v) = ⊤
   NodeIsTyped w (loop_index k) = ⊤
-  NodeIsTyped w (of_object o e) = ⊥
+  NodeIsTyped w (reduce p op body) = IsTyped body
+  NodeIsTyped w (of_object o e) = IsTyped e
   NodeIsTyped w (bit_select base first low) = IsTyped base × IsTyped first
   NodeIsTyped w (part_select base first last low) =
       IsTyped base × IsTyped first × IsTyped last × IsConstant first × IsConstant last × (constant first -ℤ constant last +ℤ pos 1 ≡ pos w)
@@ -71,7 +75,9 @@ abbrev mutual
   NodeIsTyped w (choice t met unmet) = IsTyped t × IsTyped met × IsTyped unmet
   NodeIsTyped w (inside l members) = IsTyped l × RangesAreTyped members
   NodeIsTyped w (join parts) = AreTyped parts
-  NodeIsTyped w (copies count parts) = IsTyped count × IsConstant count × AreTyped parts × (alone blank [] count * sizes parts ≡ w)
+  -- the count is not negative
+  NodeIsTyped w (copies count parts) =
+      IsTyped count × IsConstant count × AreTyped parts × (alone blank [] count * sizes parts ≡ w) × (constant count ≡ pos (alone blank [] count))
   NodeIsTyped w (sign signed e) = IsTyped e
 
   pub AreTyped : ExprTerms → Type 0
@@ -90,43 +96,45 @@ abbrev mutual
   BoundIsTyped (value e) = IsTyped e
   BoundIsTyped dollar = ⊤
 
--- ---- what an assignment has for a tree fits the tree's sizes, and so many loops stand around it
+-- ---- what an assignment has for a tree fits the tree's sizes, and so many loops and reductions stand around it, at most 256; no part is another object's
 
-module _ (a : Reading) (depth : ℕ) where
+module _ (a : Reading) where
   abbrev mutual
-    pub CanRead : ExprTerm → Type 0
-    CanRead (typed w s n) = NodeCanRead w n
+    pub CanRead : ℕ → ExprTerm → Type 0
+    CanRead depth (typed w s n) = NodeCanRead depth w n
 
-    pub NodeCanRead : ℕ → NodeTerm → Type 0
-    NodeCanRead w (number v every) = ⊤
-    NodeCanRead w (prop p) = (i : ℕ) → a.element p i < 2 ^ w
-    NodeCanRead w (element p e) = CanRead e × ((i : ℕ) → a.element p i < 2 ^ w)
-    NodeCanRead w (size p) = a.size p < 2 ^ 32
-    NodeCanRead w (script v) = a.script v < 2 ^ w
-    NodeCanRead w (loop_index k) = k < depth
-    NodeCanRead w (of_object o e) = CanRead e
-    NodeCanRead w (bit_select base first low) = CanRead base × CanRead first
-    NodeCanRead w (part_select base first last low) = CanRead base × CanRead first × CanRead last
-    NodeCanRead w (unary op e) = CanRead e
-    NodeCanRead w (binary op l r) = CanRead l × CanRead r
-    NodeCanRead w (choice t met unmet) = CanRead t × CanRead met × CanRead unmet
-    NodeCanRead w (inside l members) = CanRead l × RangesCanRead members
-    NodeCanRead w (join parts) = AllCanRead parts
-    NodeCanRead w (copies count parts) = CanRead count × AllCanRead parts
-    NodeCanRead w (sign signed e) = CanRead e
+    pub NodeCanRead : ℕ → ℕ → NodeTerm → Type 0
+    NodeCanRead depth w (number v every) = ⊤
+    NodeCanRead depth w (prop p) = (i : ℕ) → a.element p i < 2 ^ w
+    NodeCanRead depth w (element p e) = CanRead depth e × ((i : ℕ) → a.element p i < 2 ^ w)
+    NodeCanRead depth w (cell p m first second) = CanRead depth first × CanRead depth second × ((i : ℕ) → a.element p i < 2 ^ w)
+    NodeCanRead depth w (size p m) = a.size p < 2 ^ 32
+    NodeCanRead depth w (script v) = a.script v < 2 ^ w
+    NodeCanRead depth w (loop_index k) = k < depth
+    NodeCanRead depth w (reduce p op body) = (depth < 256) × CanRead (depth + 1) body
+    NodeCanRead depth w (of_object o e) = ⊥
+    NodeCanRead depth w (bit_select base first low) = CanRead depth base × CanRead depth first
+    NodeCanRead depth w (part_select base first last low) = CanRead depth base × CanRead depth first × CanRead depth last
+    NodeCanRead depth w (unary op e) = CanRead depth e
+    NodeCanRead depth w (binary op l r) = CanRead depth l × CanRead depth r
+    NodeCanRead depth w (choice t met unmet) = CanRead depth t × CanRead depth met × CanRead depth unmet
+    NodeCanRead depth w (inside l members) = CanRead depth l × RangesCanRead depth members
+    NodeCanRead depth w (join parts) = AllCanRead depth parts
+    NodeCanRead depth w (copies count parts) = CanRead depth count × AllCanRead depth parts
+    NodeCanRead depth w (sign signed e) = CanRead depth e
 
-    pub AllCanRead : ExprTerms → Type 0
-    AllCanRead no_exprs = ⊤
-    AllCanRead (more_exprs e es) = CanRead e × AllCanRead es
+    pub AllCanRead : ℕ → ExprTerms → Type 0
+    AllCanRead depth no_exprs = ⊤
+    AllCanRead depth (more_exprs e es) = CanRead depth e × AllCanRead depth es
 
-    pub RangesCanRead : RangeTerms → Type 0
-    RangesCanRead no_ranges = ⊤
-    RangesCanRead (more_ranges r rs) = RangeCanRead r × RangesCanRead rs
+    pub RangesCanRead : ℕ → RangeTerms → Type 0
+    RangesCanRead depth no_ranges = ⊤
+    RangesCanRead depth (more_ranges r rs) = RangeCanRead depth r × RangesCanRead depth rs
 
-    pub RangeCanRead : RangeTerm → Type 0
-    RangeCanRead (one e) = CanRead e
-    RangeCanRead (span low high) = BoundCanRead low × BoundCanRead high
+    pub RangeCanRead : ℕ → RangeTerm → Type 0
+    RangeCanRead depth (one e) = CanRead depth e
+    RangeCanRead depth (span low high) = BoundCanRead depth low × BoundCanRead depth high
 
-    pub BoundCanRead : BoundTerm → Type 0
-    BoundCanRead (value e) = CanRead e
-    BoundCanRead dollar = ⊤
+    pub BoundCanRead : ℕ → BoundTerm → Type 0
+    BoundCanRead depth (value e) = CanRead depth e
+    BoundCanRead depth dollar = ⊤

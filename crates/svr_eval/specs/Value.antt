@@ -1,12 +1,12 @@
 -- The size, the sign and the value of a typed expression (IEEE 1800-2017, 11.6 to 11.8).
-use Rattle.std.specs.Prelude.{◌==◌, ℕ, zero, suc, ◌+◌, ◌-◌, ◌*◌, ◌/◌, ◌%◌, ◌^◌, max, ℤ, pos, negsuc, ◌-ℤ◌, Bool, true, false, not, ◌&&◌, ◌||◌, nat_lt, cond, if◌then◌else◌, Option, Some, None, List, length, slice_index}
+use Rattle.std.specs.Prelude.{◌==◌, ℕ, zero, suc, ◌+◌, ◌-◌, ◌*◌, ◌/◌, ◌%◌, ◌^◌, max, ℤ, pos, negsuc, ◌-ℤ◌, Bool, true, false, not, ◌&&◌, ◌||◌, nat_lt, cond, if◌then◌else◌, Option, Some, None, List, [], ◌∷◌, ◌++◌, length, slice_index}
 use Rattle.svr_num.specs.Num.{read_of, extend_of, less_of}
-use Rattle.svr_typed.specs.ExprTerm.{ExprTerm, typed, NodeTerm, number, prop, element, size, script, loop_index, of_object, bit_select, part_select, unary, binary, choice, inside, join, copies, sign, ExprTerms, no_exprs, more_exprs, RangeTerm, one, span, RangeTerms, no_ranges, more_ranges, BoundTerm, value, dollar}
+use Rattle.svr_typed.specs.ExprTerm.{ExprTerm, typed, NodeTerm, number, prop, element, cell, size, script, loop_index, reduce, of_object, bit_select, part_select, unary, binary, choice, inside, join, copies, sign, ExprTerms, no_exprs, more_exprs, RangeTerm, one, span, RangeTerms, no_ranges, more_ranges, BoundTerm, value, dollar}
 use Rattle.svr_eval.specs.declared.operator.BinaryKind.{BinaryKind}
 use Rattle.svr_eval.specs.declared.operator.BinaryKind.TheVariants.{InContext, Shifted, ByPair, Logical}
 use Rattle.svr_eval.specs.declared.operator.UnaryKind.{UnaryKind}
 use Rattle.svr_eval.specs.declared.operator.UnaryKind.TheVariants.{Changed, Reduced}
-use Rattle.svr_eval.specs.Operator.{binary_kind, unary_kind, arithmetic_of, shift_of, comparison_of, connective_of, change_of, reduction_of, binary_size, binary_sign, unary_size, unary_sign}
+use Rattle.svr_eval.specs.Operator.{binary_kind, unary_kind, arithmetic_of, shift_of, comparison_of, connective_of, change_of, reduction_of, fold_of, binary_size, binary_sign, unary_size, unary_sign}
 use Rattle.svr_eval.specs.Reading.{Reading}
 
 -- ---- sizes and signs, from the leaves up (table 11-21, 11.8.1)
@@ -20,9 +20,11 @@ abbrev mutual
   node_size w (number v every) = if every then 1 else w
   node_size w (prop p) = w
   node_size w (element p e) = w
-  node_size w (size p) = 32
+  node_size w (cell p m first second) = w
+  node_size w (size p m) = 32
   node_size w (script v) = w
   node_size w (loop_index k) = 32
+  node_size w (reduce p op body) = size_of body
   node_size w (of_object o e) = size_of e
   node_size w (bit_select base first low) = 1
   node_size w (part_select base first last low) = w
@@ -48,9 +50,11 @@ abbrev mutual
   node_sign s (number v every) = if every then false else s
   node_sign s (prop p) = s
   node_sign s (element p e) = s
-  node_sign s (size p) = true
+  node_sign s (cell p m first second) = s
+  node_sign s (size p m) = true
   node_sign s (script v) = s
   node_sign s (loop_index k) = true
+  node_sign s (reduce p op body) = sign_of body
   node_sign s (of_object o e) = sign_of e
   node_sign s (bit_select base first low) = false
   node_sign s (part_select base first last low) = false
@@ -83,6 +87,12 @@ literal w from s every v = if every then (if v == 0 then 0 else (2 ^ w - 1)) els
 abbrev pub element_at : Reading → ℕ → ℤ → ℕ
 element_at a p (pos i) = a.element p i
 element_at a p (negsuc i) = 0
+
+-- the element of an array with rows of m elements that two indexes name, row by row; there is none outside a dimension (7.4.2, 7.4.5)
+abbrev pub cell_at : Reading → ℕ → ℕ → ℤ → ℤ → ℕ
+cell_at a p m (pos i) (pos j) = if nat_lt j m then a.element p (i * m + j) else 0
+cell_at a p m (pos i) (negsuc j) = 0
+cell_at a p m (negsuc i) j = 0
 
 -- w bits of a vector from its bit k on, where bits outside the vector are 0 (11.5.1)
 abbrev pub bits_from : ℤ → ℕ → ℕ → ℕ
@@ -159,71 +169,82 @@ equals_member a left (Some p) x = has_element a p x.size (common_size left x) (c
 
 -- ---- values
 
-module _ (a : Reading) (env : List ℕ) where
+module _ (a : Reading) where
   abbrev mutual
     -- the value at the width and the sign that the context has (11.8.2)
-    pub val : ExprTerm → ℕ → Bool → ℕ
-    val (typed from signed n) w s = node_val from signed n w s
+    pub val : List ℕ → ExprTerm → ℕ → Bool → ℕ
+    val env (typed from signed n) w s = node_val env from signed n w s
 
     -- the first two are the size and the sign that are written at the node
-    pub node_val : ℕ → Bool → NodeTerm → ℕ → Bool → ℕ
-    node_val from signed (number v every) w s = literal w from s every v
-    node_val from signed (prop p) w s = extend_of s w from (a.element p 0)
-    node_val from signed (element p e) w s = extend_of s w from (element_at a p (read_of (sign_of e) (size_of e) (val e (size_of e) (sign_of e))))
-    node_val from signed (size p) w s = extend_of s w 32 (a.size p)
-    node_val from signed (script v) w s = extend_of s w from (a.script v)
-    node_val from signed (loop_index k) w s = extend_of s w 32 (index_of env k)
-    node_val from signed (of_object o e) w s = val e w s
-    node_val from signed (bit_select base first low) w s =
-        extend_of s w 1 (bits_from (read_of (sign_of first) (size_of first) (val first (size_of first) (sign_of first)) -ℤ low) 1 (val base (size_of base) (sign_of base)))
-    node_val from signed (part_select base first last low) w s =
-        extend_of s w from (bits_from (read_of (sign_of last) (size_of last) (val last (size_of last) (sign_of last)) -ℤ low) from (val base (size_of base) (sign_of base)))
-    node_val from signed (unary op e) w s = unary_val (unary_kind op) w s (size_of e) (val e w s) (val e (size_of e) (sign_of e))
-    node_val from signed (binary op l r) w s =
+    pub node_val : List ℕ → ℕ → Bool → NodeTerm → ℕ → Bool → ℕ
+    node_val env from signed (number v every) w s = literal w from s every v
+    node_val env from signed (prop p) w s = extend_of s w from (a.element p 0)
+    node_val env from signed (element p e) w s = extend_of s w from (element_at a p (read_of (sign_of e) (size_of e) (val env e (size_of e) (sign_of e))))
+    node_val env from signed (cell p m first second) w s =
+        extend_of s w from (cell_at a p m (read_of (sign_of first) (size_of first) (val env first (size_of first) (sign_of first)))
+        (read_of (sign_of second) (size_of second) (val env second (size_of second) (sign_of second))))
+    node_val env from signed (size p m) w s = extend_of s w 32 (a.size p / m)
+    node_val env from signed (script v) w s = extend_of s w from (a.script v)
+    node_val env from signed (loop_index k) w s = extend_of s w 32 (index_of env k)
+    -- over the body alone, in which the reduction is the innermost loop
+    node_val env from signed (reduce p op body) w s =
+        extend_of s w (size_of body) (fold_of op (size_of body) (a.size p) (λ i. val (env ++ i ∷ []) body (size_of body) (sign_of body)))
+    node_val env from signed (of_object o e) w s = val env e w s
+    node_val env from signed (bit_select base first low) w s =
+        extend_of s w 1 (bits_from (read_of (sign_of first) (size_of first) (val env first (size_of first) (sign_of first)) -ℤ low) 1 (val env base (size_of base) (sign_of base)))
+    node_val env from signed (part_select base first last low) w s =
+        extend_of s w from (bits_from (read_of (sign_of last) (size_of last) (val env last (size_of last) (sign_of last)) -ℤ low) from (val env base (size_of base) (sign_of base)))
+    node_val env from signed (unary op e) w s = unary_val (unary_kind op) w s (size_of e) (val env e w s) (val env e (size_of e) (sign_of e))
+    node_val env from signed (binary op l r) w s =
         binary_val (binary_kind op) w s (max (size_of l) (size_of r)) (sign_of l && sign_of r)
-        (val l w s) (val r w s) (val l (max (size_of l) (size_of r)) (sign_of l && sign_of r)) (val r (max (size_of l) (size_of r)) (sign_of l && sign_of r))
-        (val l (size_of l) (sign_of l)) (val r (size_of r) (sign_of r))
-    node_val from signed (choice t met unmet) w s = if is_set (val t (size_of t) (sign_of t)) then val met w s else val unmet w s
-    node_val from signed (inside l members) w s = truth w s (fits_some (record { size = size_of l; sign = sign_of l; value = λ n t. val l n t }) members)
-    node_val from signed (join parts) w s = extend_of s w (sizes parts) (joined parts)
-    node_val from signed (copies count parts) w s =
-        extend_of s w from (copied (val count (size_of count) (sign_of count)) (sizes parts) (joined parts))
-    node_val from signed (sign as_signed e) w s = extend_of s w (size_of e) (val e (size_of e) (sign_of e))
+        (val env l w s) (val env r w s) (val env l (max (size_of l) (size_of r)) (sign_of l && sign_of r)) (val env r (max (size_of l) (size_of r)) (sign_of l && sign_of r))
+        (val env l (size_of l) (sign_of l)) (val env r (size_of r) (sign_of r))
+    node_val env from signed (choice t met unmet) w s = if is_set (val env t (size_of t) (sign_of t)) then val env met w s else val env unmet w s
+    node_val env from signed (inside l members) w s = truth w s (fits_some env (record { size = size_of l; sign = sign_of l; value = λ n t. val env l n t }) members)
+    node_val env from signed (join parts) w s = extend_of s w (sizes parts) (joined env parts)
+    node_val env from signed (copies count parts) w s =
+        extend_of s w from (copied (val env count (size_of count) (sign_of count)) (sizes parts) (joined env parts))
+    node_val env from signed (sign as_signed e) w s = extend_of s w (size_of e) (val env e (size_of e) (sign_of e))
 
     -- the first part holds the highest bits (11.4.12)
-    pub joined : ExprTerms → ℕ
-    joined no_exprs = 0
-    joined (more_exprs e es) = val e (size_of e) (sign_of e) * 2 ^ sizes es + joined es
+    pub joined : List ℕ → ExprTerms → ℕ
+    joined env no_exprs = 0
+    joined env (more_exprs e es) = val env e (size_of e) (sign_of e) * 2 ^ sizes es + joined env es
 
     -- set membership (11.4.13)
-    pub fits_some : Operand → RangeTerms → Bool
-    fits_some left no_ranges = false
-    fits_some left (more_ranges r rs) = fits left r || fits_some left rs
+    pub fits_some : List ℕ → Operand → RangeTerms → Bool
+    fits_some env left no_ranges = false
+    fits_some env left (more_ranges r rs) = fits env left r || fits_some env left rs
 
-    pub fits : Operand → RangeTerm → Bool
-    fits left (one e) = equals_member a left (property_of e) (record { size = size_of e; sign = sign_of e; value = λ n t. val e n t })
-    fits left (span low high) = is_from left low && is_up_to left high
+    pub fits : List ℕ → Operand → RangeTerm → Bool
+    fits env left (one e) = equals_member a left (property_of e) (record { size = size_of e; sign = sign_of e; value = λ n t. val env e n t })
+    fits env left (span low high) = is_from env left low && is_up_to env left high
 
     -- `$` bounds nothing
-    pub is_from : Operand → BoundTerm → Bool
-    is_from left (value e) = not (is_below left (record { size = size_of e; sign = sign_of e; value = λ n t. val e n t }))
-    is_from left dollar = true
+    pub is_from : List ℕ → Operand → BoundTerm → Bool
+    is_from env left (value e) = not (is_below left (record { size = size_of e; sign = sign_of e; value = λ n t. val env e n t }))
+    is_from env left dollar = true
 
-    pub is_up_to : Operand → BoundTerm → Bool
-    is_up_to left (value e) = not (is_below (record { size = size_of e; sign = sign_of e; value = λ n t. val e n t }) left)
-    is_up_to left dollar = true
+    pub is_up_to : List ℕ → Operand → BoundTerm → Bool
+    is_up_to env left (value e) = not (is_below (record { size = size_of e; sign = sign_of e; value = λ n t. val env e n t }) left)
+    is_up_to env left dollar = true
+
+module _ (a : Reading) (env : List ℕ) where
+  -- an expression alone is computed at its own size and sign
+  abbrev pub alone : ExprTerm → ℕ
+  alone e = val a env e (size_of e) (sign_of e)
+
+  abbrev pub operand_of : ExprTerm → Operand
+  operand_of e = record { size = size_of e; sign = sign_of e; value = λ n t. val a env e n t }
+
+  -- the whole number that an index reads
+  abbrev pub index_read : ExprTerm → ℤ
+  index_read e = read_of (sign_of e) (size_of e) (val a env e (size_of e) (sign_of e))
 
   -- w bits of a vector down to the bit that the last bound names, by numbers that begin at the lowest bit's
   abbrev pub selected : ExprTerm → ExprTerm → ℤ → ℕ → ℕ
-  selected base last low w = bits_from (read_of (sign_of last) (size_of last) (val last (size_of last) (sign_of last)) -ℤ low) w (val base (size_of base) (sign_of base))
+  selected base last low w = bits_from (read_of (sign_of last) (size_of last) (val a env last (size_of last) (sign_of last)) -ℤ low) w (val a env base (size_of base) (sign_of base))
 
   -- as many copies of the joined parts as the count says (11.4.12.1)
   abbrev pub replicated : ExprTerm → ExprTerms → ℕ
-  replicated count parts = copied (val count (size_of count) (sign_of count)) (sizes parts) (joined parts)
-
-  -- an expression alone is computed at its own size and sign
-  abbrev pub alone : ExprTerm → ℕ
-  alone e = val e (size_of e) (sign_of e)
-
-  abbrev pub operand_of : ExprTerm → Operand
-  operand_of e = record { size = size_of e; sign = sign_of e; value = λ n t. val e n t }
+  replicated count parts = copied (val a env count (size_of count) (sign_of count)) (sizes parts) (joined a env parts)

@@ -1,8 +1,9 @@
 // What the definitions say of expressions and items that were worked out by hand: each function has an empty body, and its contract is the statement.
 
-ghost use Rattle.std.specs.Prelude.{◌≡◌, true};
+ghost use Rattle.std.specs.Prelude.{◌≡◌, true, false};
 ghost use Rattle.std.specs.List.{list_all};
 ghost use Rattle.svr_eval.specs.Examples as example;
+ghost use Rattle.svr_eval.specs.Typed.{IsTyped};
 
 /// Sums, products and quotients at the size and sign of their context.
 pub fn arithmetic_is_as_worked_out()
@@ -32,6 +33,22 @@ pub fn wholes_are_as_worked_out()
 /// Selects by declared ranges, elements, sizes and loop variables.
 pub fn selects_are_as_worked_out()
     ensures { list_all example.is_so example.selects ≡ true }
+{}
+
+/// Elements by two indexes, 0 outside one's own dimension, also where the place is one of the array's.
+pub fn cells_are_as_worked_out()
+    ensures { list_all example.is_so example.cells ≡ true }
+{}
+
+/// Array reductions at the size of their body.
+pub fn reductions_are_as_worked_out()
+    ensures { list_all example.is_so example.reductions ≡ true }
+{}
+
+/// The count of a replication is read by its sign: a negative one is none.
+pub fn counts_are_as_worked_out()
+    ensures negative { IsTyped (example.counted_by true) → ⊥ }
+    ensures unsigned { IsTyped (example.counted_by false) }
 {}
 
 /// Set membership by pairs of sizes and signs.

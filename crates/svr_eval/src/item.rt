@@ -1,6 +1,6 @@
 // The truth of constraint items (IEEE 1800-2017, 18.5).
 
-ghost use Rattle.std.specs.Prelude.{◌≡◌, length, map};
+ghost use Rattle.std.specs.Prelude.{◌≡◌, ◌≤◌, ◌+◌, ◌-◌, ◌⊎◌, length, map};
 ghost use Rattle.svr_typed.specs.ExprTerm.{expr_term};
 ghost use Rattle.svr_typed.specs.ItemTerm.{item_term, item_terms, dist_term, dist_terms};
 ghost use Rattle.svr_eval.specs.Reading.{reading_of};
@@ -81,9 +81,14 @@ pub fn holds(item: &TItem, a: &Assign, env: &Env) -> bool
                 }
             }
         }
-        TItem::Foreach { array, body } => {
-            for i in 0..a.size(*array) {
-                if !all_hold(body.as_slice(), a, &env.inner(i)) {
+        TItem::Foreach {
+            array,
+            inner,
+            names,
+            body,
+        } => {
+            for i in 0..a.size(*array) / *inner {
+                if !row_holds(body.as_slice(), *inner, *names, a, &env.inner(i)) {
                     return false;
                 }
             }
@@ -91,6 +96,26 @@ pub fn holds(item: &TItem, a: &Assign, env: &Env) -> bool
         }
         TItem::Disable { .. } | TItem::Solve { .. } => true,
     }
+}
+
+/// Whether the set of a loop holds in one row of the array: where the loop has two variables, for each index of the second dimension.
+#[cycle(holds)]
+fn row_holds(body: &[TItem], inner: u32, names: u8, a: &Assign, env: &Env) -> bool
+    requires names { (names ≡ 1) ⊎ (names ≡ 2) }
+    requires typed { ItemsAreTyped (item_terms body.now) }
+    requires depth { length env.now + names ≤ 257 }
+    requires reads { ItemsCanRead (reading_of a.now) (length env.now + names - 1) (item_terms body.now) }
+    ensures { result ≡ spec.each_in_row inner names (λ indexes. spec.all_hold (reading_of a.now) indexes (item_terms body.now)) env.now }
+{
+    if names != 2 {
+        return all_hold(body, a, env);
+    }
+    for j in 0..inner {
+        if !all_hold(body, a, &env.inner(j)) {
+            return false;
+        }
+    }
+    true
 }
 
 /// Whether all items hold.

@@ -3,8 +3,9 @@
 ghost use Rattle.std.specs.Prelude.{◌≡◌, ◌≤◌};
 ghost use Rattle.svr_eval.specs.Operator as spec;
 
+use crate::parts::bits;
 use svr_num::Bits;
-use svr_typed::{BinOp, UnOp};
+use svr_operator::{BinOp, Fold, UnOp};
 
 /// A binary operator whose operands both have the width and sign of the context (IEEE 1800-2017, 11.4.3 and 11.4.8).
 #[derive(Clone, Copy, Debug, PartialEq, Eq)]
@@ -128,6 +129,33 @@ pub fn unary_kind(op: UnOp) -> UnaryKind
         UnOp::ReduceNor | UnOp::LogicalNot => UnaryKind::Reduced(Reduction::Nor),
         UnOp::ReduceXor => UnaryKind::Reduced(Reduction::Xor),
         UnOp::ReduceTildeXor | UnOp::ReduceXorTilde => UnaryKind::Reduced(Reduction::Xnor),
+    }
+}
+
+/// The operator of an array reduction (IEEE 1800-2017, 7.12.3).
+pub fn fold_operator(op: Fold) -> Arithmetic
+    ensures { result ≡ spec.fold_operator op }
+{
+    match op {
+        Fold::Sum => Arithmetic::Add,
+        Fold::Product => Arithmetic::Multiply,
+        Fold::And => Arithmetic::And,
+        Fold::Or => Arithmetic::Or,
+        Fold::Xor => Arithmetic::Xor,
+    }
+}
+
+/// What an array reduction gives, at `width` bits, where there is no element.
+pub fn fold_start(op: Fold, width: u8) -> Bits
+    requires low { 1 ≤ width }
+    requires high { width ≤ 64 }
+    ensures value { result.value ≡ spec.fold_start op width }
+    ensures width { result.width ≡ width }
+{
+    match op {
+        Fold::Sum | Fold::Or | Fold::Xor => bits(0, width),
+        Fold::Product => bits(1, width),
+        Fold::And => bits(0, width).not(),
     }
 }
 
