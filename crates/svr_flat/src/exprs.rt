@@ -4,7 +4,8 @@ ghost use Rattle.std.specs.Prelude.{◌≡◌, IfOk};
 
 use sqlite_items::{Boxed, Items};
 use std::alloc::Global;
-use svr_typed::{BinOp, Fold, NoMemory, TBound, TExpr, TNode, TRange, UnOp};
+use svr_operator::{BinOp, Fold, UnOp};
+use svr_typed::{NoMemory, TBound, TExpr, TNode, TRange};
 
 /// A copy of an expression.
 #[cycle(copy_expr)]
@@ -94,12 +95,7 @@ fn copy_part(alloc: Global, object: u32, part: &TExpr) -> Result<TNode, NoMemory
 }
 
 #[cycle(copy_expr)]
-fn copy_bit_select(
-    alloc: Global,
-    base: &TExpr,
-    index: &TExpr,
-    low: i64,
-) -> Result<TNode, NoMemory>
+fn copy_bit_select(alloc: Global, base: &TExpr, index: &TExpr, low: i64) -> Result<TNode, NoMemory>
     ensures { IfOk result (λ n. n ≡ TNode.Select base.now index.now None low) }
 {
     let base = copy_boxed(alloc, base)?;
@@ -142,12 +138,7 @@ fn copy_unary(alloc: Global, op: UnOp, arg: &TExpr) -> Result<TNode, NoMemory>
 }
 
 #[cycle(copy_expr)]
-fn copy_binary(
-    alloc: Global,
-    op: BinOp,
-    left: &TExpr,
-    right: &TExpr,
-) -> Result<TNode, NoMemory>
+fn copy_binary(alloc: Global, op: BinOp, left: &TExpr, right: &TExpr) -> Result<TNode, NoMemory>
     ensures { IfOk result (λ n. n ≡ TNode.Binary op left.now right.now) }
 {
     let left = copy_boxed(alloc, left)?;
@@ -156,12 +147,7 @@ fn copy_binary(
 }
 
 #[cycle(copy_expr)]
-fn copy_choice(
-    alloc: Global,
-    test: &TExpr,
-    yes: &TExpr,
-    no: &TExpr,
-) -> Result<TNode, NoMemory>
+fn copy_choice(alloc: Global, test: &TExpr, yes: &TExpr, no: &TExpr) -> Result<TNode, NoMemory>
     ensures { IfOk result (λ n. n ≡ TNode.Choice test.now yes.now no.now) }
 {
     let test = copy_boxed(alloc, test)?;

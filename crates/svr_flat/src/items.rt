@@ -5,7 +5,8 @@ ghost use Rattle.std.specs.Prelude.{◌≡◌, IfOk};
 use crate::exprs::{copy_expr, copy_exprs, copy_range};
 use sqlite_items::Items;
 use std::alloc::Global;
-use svr_typed::{NoMemory, Prop, Share, TBlock, TDistItem, TExpr, TItem, Text};
+use svr_operator::Share;
+use svr_typed::{NoMemory, Prop, TBlock, TDistItem, TExpr, TItem, Text};
 
 /// A copy of a constraint item.
 #[cycle(copy_item)]
@@ -48,12 +49,7 @@ fn copy_plain(alloc: Global, soft: bool, e: &TExpr) -> Result<TItem, NoMemory>
     })
 }
 
-fn copy_dist(
-    alloc: Global,
-    soft: bool,
-    e: &TExpr,
-    members: &[TDistItem],
-) -> Result<TItem, NoMemory>
+fn copy_dist(alloc: Global, soft: bool, e: &TExpr, members: &[TDistItem]) -> Result<TItem, NoMemory>
     ensures { IfOk result (λ copy. copy ≡ TItem.Plain soft e.now (Some members.now)) }
 {
     let expr = copy_expr(alloc, e)?;

@@ -12,5 +12,5 @@ mod tests;
 
 pub use exprs::{copy_expr, copy_exprs};
 pub use inheritance::flatten;
-pub use laws::{classes_stand_over_their_bases, derived_class_is_as_worked_out};
 pub use items::{copy_item, copy_items};
+pub use laws::{classes_stand_over_their_bases, derived_class_is_as_worked_out};

@@ -5,9 +5,10 @@ use sqlite_items::Items;
 use std::alloc::Global;
 use std::process::Abort;
 use std::test::Fail;
+use svr_operator::{BinOp, Fold, Rand, Share, UnOp};
 use svr_typed::{
-    ArrayKind, BinOp, Design, EnumType, Fold, NoMemory, NumType, Prop, Rand, Share, TBlock, TBound,
-    TClass, TDistItem, TExpr, TItem, TNode, TRange, TStmt, TVar, Text, UnOp,
+    ArrayKind, Design, EnumType, NoMemory, NumType, Prop, TBlock, TBound, TClass, TDistItem, TExpr,
+    TItem, TNode, TRange, TStmt, TVar, Text,
 };
 
 fn number(value: u64) -> TExpr {
@@ -43,15 +44,27 @@ fn expressions_are_copied(rt: HostRuntime) -> Result<(), Fail> {
     is_copied(&rt, alloc, TNode::cell(alloc, 0, 2, number(1), number(2)));
     is_copied(&rt, alloc, TNode::reduce(alloc, 0, Fold::Sum, number(1)));
     is_copied(&rt, alloc, TNode::of_object(alloc, 0, number(1)));
-    is_copied(&rt, alloc, TNode::bit_select(alloc, number(1), number(2), 0));
+    is_copied(
+        &rt,
+        alloc,
+        TNode::bit_select(alloc, number(1), number(2), 0),
+    );
     is_copied(
         &rt,
         alloc,
         TNode::part_select(alloc, number(1), number(2), number(3), 0),
     );
     is_copied(&rt, alloc, TNode::unary(alloc, UnOp::Minus, number(1)));
-    is_copied(&rt, alloc, TNode::binary(alloc, BinOp::Add, number(1), number(2)));
-    is_copied(&rt, alloc, TNode::choice(alloc, number(1), number(2), number(3)));
+    is_copied(
+        &rt,
+        alloc,
+        TNode::binary(alloc, BinOp::Add, number(1), number(2)),
+    );
+    is_copied(
+        &rt,
+        alloc,
+        TNode::choice(alloc, number(1), number(2), number(3)),
+    );
     let set = one_range(alloc)?;
     is_copied(&rt, alloc, TNode::inside(alloc, number(1), set));
     let parts = one_part(alloc)?;

@@ -12,7 +12,7 @@ use Rattle.svr_world.specs.declared.change.Replacement.{Replacement}
 use Rattle.svr_world.specs.declared.change.Change.{Change}
 use Rattle.svr_typed.specs.ClassTerm.{FlatTerm}
 use Rattle.svr_world.specs.World.{initial_numbers, with_lists}
-use Rattle.svr_world.specs.Fits.{IsShort, AreShort, AreRising, IsSmall, AreSmall, FitsPlace, FitsChange}
+use Rattle.svr_world.specs.Fits.{IsShort, AreShort, IsSmall, AreSmall, FitsPlace, FitsChange}
 
 pub initial_short : (a : ArrayKind) (first : ℕ) → IsSmall a → IsShort (initial_numbers a first)
 initial_short Scalar first small = omega arith

@@ -8,9 +8,10 @@ use sqlite_items::Items;
 use std::alloc::Global;
 use std::process::Abort;
 use std::test::Fail;
+use svr_operator::Rand;
 use svr_typed::{
-    ArrayKind, Design, EnumType, FlatClass, NoMemory, NumType, Prop, Rand, TBlock, TClass, TItem,
-    TStmt, TVar, Text, VarKind,
+    ArrayKind, Design, EnumType, FlatClass, NoMemory, NumType, Prop, TBlock, TClass, TItem, TStmt,
+    TVar, Text, VarKind,
 };
 
 /// Counts samples while there is room for the count.
