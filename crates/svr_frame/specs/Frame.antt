@@ -79,6 +79,10 @@ module _ (f : FrameTerm) where
   abbrev pub is_cyclic : ℕ → Bool
   is_cyclic p = is_random p && slice_index_or (map (λ (x : Prop). is_randc x.rand) f.class.props) p false
 
+  -- random in some call of the script (18.4, 18.11)
+  abbrev pub can_be_random : ℕ → Bool
+  can_be_random p = slice_index_or (map (λ (x : Prop). x.can) f.class.props) p false
+
   -- an array whose size this call chooses
   abbrev pub has_free_size : ℕ → Bool
   has_free_size p = slice_index_or f.free_size p false

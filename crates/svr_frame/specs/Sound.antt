@@ -14,7 +14,7 @@ use Rattle.svr_typed.specs.ItemTerm.{DistTerm, ItemTerm, plain, unique, implies,
 use Rattle.svr_eval.specs.Reading.{Reading, reading_of}
 use Rattle.svr_eval.specs.Typed.{CanRead}
 use Rattle.svr_eval.specs.Holds.{ItemsAreTyped, ItemsCanRead}
-use Rattle.svr_frame.specs.Frame.{FrameTerm, is_scalar_kind, is_randc, props_of, is_scalar, is_array, is_dynamic, inner_of, width_of, is_signed, is_random, is_cyclic, has_free_size, domain_of, state_sizes}
+use Rattle.svr_frame.specs.Frame.{FrameTerm, is_scalar_kind, is_randc, props_of, is_scalar, is_array, is_dynamic, inner_of, width_of, is_signed, is_random, is_cyclic, can_be_random, has_free_size, domain_of, state_sizes}
 use Rattle.svr_frame.specs.Reads.{Read, property_read, is_size_read, reads}
 use Rattle.svr_frame.specs.Phases.{shape_at}
 
@@ -206,7 +206,7 @@ module _ (f : FrameTerm) where
     pub types : All IsEnum f.enums
     pub props : All (IsProp f.enums) f.class.props
     pub random : length f.random ≡ length f.class.props
-    pub can : (p : ℕ) → is_random f p ≡ true → slice_index_or (map (λ (x : Prop). x.can) f.class.props) p false ≡ true
+    pub can : (p : ℕ) → is_random f p ≡ true → can_be_random f p ≡ true
     pub free_size : length f.free_size ≡ length f.class.props
     pub free : (p : ℕ) → has_free_size f p ≡ true → (is_random f p ≡ true) × (is_dynamic f p ≡ true)
     pub state : StateIsSound

@@ -6,9 +6,14 @@ mod frame;
 mod part;
 mod property;
 mod slot;
+mod sought;
 
 pub use examples::calls_are_as_worked_out;
 pub use frame::Frame;
 pub use part::Part;
 pub use property::size_at;
 pub use slot::Slot;
+pub use sought::{
+    Sought, finds, finds_in_members, finds_in_range, finds_size, holds_free_size, is_open,
+    mentions_random,
+};

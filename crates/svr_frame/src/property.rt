@@ -46,6 +46,16 @@ impl Frame {
         }
     }
 
+    /// Whether a property is random in some call of the script (IEEE 1800-2017, 18.4 and 18.11).
+    pub fn can_be_random(&self, prop: u32) -> bool
+        ensures { result ≡ spec.can_be_random (frame_term self.now) prop }
+    {
+        match self.class.props.as_slice().get(prop as usize) {
+            Some(declared) => declared.can,
+            None => false,
+        }
+    }
+
     /// Whether this call chooses the size of an array.
     pub fn has_free_size(&self, prop: u32) -> bool
         ensures { result ≡ spec.has_free_size (frame_term self.now) prop }
