@@ -1,6 +1,6 @@
 -- A derived class that was worked out by hand: D extends B; both have a block c, and B has a block e behind it. D has B's e, and then its own c.
 use Rattle.std.specs.Prelude.{ℕ, List, [], ◌∷◌, ◌++◌, Some, None, map, codes, pos, true, false}
-use Rattle.svr_operator.specs.declared.rand.Rand.TheVariants as rand
+use Rattle.svr_operator.specs.declared.Rand.TheVariants as rand
 use Rattle.svr_typed.specs.declared.class.ArrayKind.TheVariants as array
 use Rattle.svr_typed.specs.declared.class.Prop.{Prop}
 use Rattle.svr_typed.specs.ExprTerm.{typed, number}
