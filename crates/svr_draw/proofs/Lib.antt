@@ -8,3 +8,4 @@ pub mod Built
 pub mod Here
 pub mod Picks
 pub mod Drawn
+pub mod Sample

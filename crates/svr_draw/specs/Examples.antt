@@ -5,12 +5,12 @@ use Rattle.svr_operator.specs.declared.Rand.TheVariants as rand
 use Rattle.svr_typed.specs.declared.class.ArrayKind.TheVariants as array
 use Rattle.svr_typed.specs.declared.class.Prop.{Prop}
 use Rattle.svr_typed.specs.ExprTerm.{ExprTerm, typed, prop, RangeTerm, one, span, value, dollar}
-use Rattle.svr_typed.specs.ItemTerm.{DistTerm, ItemTerm, plain, implies, items_of}
+use Rattle.svr_typed.specs.ItemTerm.{DistTerm, ItemTerm, plain, implies, no_items, items_of}
 use Rattle.svr_eval.specs.Examples.{int, minus, from_to}
 use Rattle.svr_frame.specs.declared.part.Part.TheVariants.{Randc, Sizes, All}
 use Rattle.svr_frame.specs.Frame.{FrameTerm}
 pub use Rattle.svr_frame.specs.Examples.{is_so}
-use Rattle.svr_frame.specs.Examples.{Example, ◌gives◌, frame, frame_in, rand_of, randc_of, kind_prop, kinds, packet, x_of}
+use Rattle.svr_frame.specs.Examples.{Example, ◌gives◌, frame, frame_in, rand_of, randc_of, dynamic_of, kind_prop, kinds, packet, x_of}
 use Rattle.svr_draw.specs.Words.{generator, word_of}
 use Rattle.svr_draw.specs.Preferred.{preferred_of}
 
@@ -89,8 +89,8 @@ picks =
     -- cut to the type
     ∷ (picks_of (rand_of 8) (each_with (just 300) 1 ∷ each_with (one (minus 1)) 1 ∷ []) (0 ∷ 1 ∷ []) gives (44 ∷ 255 ∷ []))
     -- 2^64 - 1 places can be counted in a word, and 2^64 cannot; the product of a place and 2^64 values is divided whole
-    ∷ (picks_of (rand_of 64) (each_with (span (value (int 1)) dollar) 1 ∷ []) (0 ∷ 2 ^ 64 - 2 ∷ 2 ^ 64 - 1 ∷ []) gives (1 ∷ 2 ^ 64 - 1 ∷ 1 ∷ []))
-    ∷ (picks_of (rand_of 64) (each_with (span dollar dollar) 1 ∷ []) (5 ∷ 2 ^ 64 - 1 ∷ []) gives (5 ∷ 2 ^ 64 - 1 ∷ []))
+    ∷ (picks_of (rand_of 64) (each_with (span (value (int 1)) dollar) 1 ∷ []) (0 ∷ (2 ^ 64 - 2) ∷ (2 ^ 64 - 1) ∷ []) gives (1 ∷ (2 ^ 64 - 1) ∷ 1 ∷ []))
+    ∷ (picks_of (rand_of 64) (each_with (span dollar dollar) 1 ∷ []) (5 ∷ (2 ^ 64 - 1) ∷ []) gives (5 ∷ (2 ^ 64 - 1) ∷ []))
     ∷ (picks_of (rand_of 64) (whole_with (span dollar dollar) 5 ∷ []) (0 ∷ 4 ∷ 9 ∷ []) gives (0 ∷ 14757395258967641292 ∷ 14757395258967641292 ∷ []))
     -- no place at all
     ∷ (picks_of (rand_of 8) (each_with (just 3) 0 ∷ []) (300 ∷ []) gives (44 ∷ []))
@@ -118,6 +118,18 @@ preferences =
     ∷ ((preferred_of packet Sizes (1 ∷ 1 ∷ 0 ∷ []) 64 words).size 2 ∷ (preferred_of packet Sizes (1 ∷ 1 ∷ 0 ∷ []) 64 words).element 0 0 ∷ (preferred_of packet All (1 ∷ 1 ∷ 2 ∷ []) 64 words).element 0 0
     ∷ (preferred_of packet All (1 ∷ 1 ∷ 2 ∷ []) 64 words).size 2 ∷ (preferred_of packet All (1 ∷ 1 ∷ 2 ∷ []) 64 words).element 2 1 ∷ [] gives (35 ∷ 1 ∷ 1 ∷ 2 ∷ 1 ∷ []))
     ∷ []
+
+-- ---- `rand bit [7:0] a; rand bit [7:0] d [];` with no items, where the size of d is one to choose
+
+abbrev pub sample_frame : FrameTerm
+sample_frame = record {
+  class = record { props = rand_of 8 ∷ dynamic_of 8 ∷ []; blocks = [] };
+  enums = [];
+  state = record { values = (0 ∷ []) ∷ [] ∷ []; sizes = 1 ∷ 0 ∷ []; script = [] };
+  random = true ∷ true ∷ [];
+  free_size = false ∷ true ∷ [];
+  items = no_items;
+}
 
 -- the first three words of the 54th call under the seed 42
 unfoldable pub first_words : List ℕ

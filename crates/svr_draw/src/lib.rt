@@ -5,6 +5,8 @@ mod assignment;
 mod examples;
 mod pick;
 mod share;
+#[cfg(test)]
+mod tests;
 mod words;
 
 pub use assignment::preferred;
