@@ -1,0 +1,11 @@
+pub mod Parts
+pub mod Readable
+pub mod Fits
+pub mod Stream
+pub mod Scaled
+pub mod Widths
+pub mod Built
+pub mod Here
+pub mod Picks
+pub mod Drawn
+pub mod Sample

@@ -1,0 +1,4 @@
+pub mod Examples
+pub mod Flat
+pub mod Lineage
+pub mod Parts

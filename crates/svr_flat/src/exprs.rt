@@ -1,0 +1,238 @@
+// Copies of expressions.
+
+ghost use Rattle.std.specs.Prelude.{◌≡◌, IfOk};
+
+use sqlite_items::{Boxed, Items};
+use std::alloc::Global;
+use svr_operator::{BinOp, Fold, UnOp};
+use svr_typed::{NoMemory, TBound, TExpr, TNode, TRange};
+
+/// A copy of an expression.
+#[cycle(copy_expr)]
+pub fn copy_expr(alloc: Global, e: &TExpr) -> Result<TExpr, NoMemory>
+    ensures { IfOk result (λ copy. copy ≡ e.now) }
+{
+    let node = match &e.node {
+        TNode::Number { value, every } => Ok(TNode::Number {
+            value: *value,
+            every: *every,
+        }),
+        TNode::Prop(prop) => Ok(TNode::Prop(*prop)),
+        TNode::Element(prop, index) => copy_element(alloc, *prop, index.get()),
+        TNode::Cell(prop, inner, first, second) => {
+            copy_cell(alloc, *prop, *inner, first.get(), second.get())
+        }
+        TNode::Size(prop, inner) => Ok(TNode::Size(*prop, *inner)),
+        TNode::Script(variable) => Ok(TNode::Script(*variable)),
+        TNode::Loop(depth) => Ok(TNode::Loop(*depth)),
+        TNode::Reduce(prop, op, body) => copy_reduction(alloc, *prop, *op, body.get()),
+        TNode::Of(object, part) => copy_part(alloc, *object, part.get()),
+        TNode::Select {
+            base,
+            first,
+            last,
+            low,
+        } => match last {
+            None => copy_bit_select(alloc, base.get(), first.get(), *low),
+            Some(last) => copy_part_select(alloc, base.get(), first.get(), last.get(), *low),
+        },
+        TNode::Unary { op, arg } => copy_unary(alloc, *op, arg.get()),
+        TNode::Binary { op, left, right } => copy_binary(alloc, *op, left.get(), right.get()),
+        TNode::Choice { test, yes, no } => copy_choice(alloc, test.get(), yes.get(), no.get()),
+        TNode::Inside { left, set } => copy_inside(alloc, set.as_slice(), left.get()),
+        TNode::Join { parts } => copy_join(alloc, parts.as_slice()),
+        TNode::Copies { count, parts } => copy_replication(alloc, parts.as_slice(), count.get()),
+        TNode::Sign { signed, arg } => copy_sign(alloc, *signed, arg.get()),
+    };
+    Ok(TExpr {
+        width: e.width,
+        signed: e.signed,
+        node: node?,
+    })
+}
+
+#[cycle(copy_expr)]
+fn copy_boxed(alloc: Global, e: &TExpr) -> Result<Boxed<TExpr>, NoMemory>
+    ensures { IfOk result (λ copy. copy ≡ e.now) }
+{
+    Ok(Boxed::new(alloc, copy_expr(alloc, e)?)?)
+}
+
+#[cycle(copy_expr)]
+fn copy_element(alloc: Global, prop: u32, index: &TExpr) -> Result<TNode, NoMemory>
+    ensures { IfOk result (λ n. n ≡ TNode.Element prop index.now) }
+{
+    Ok(TNode::Element(prop, copy_boxed(alloc, index)?))
+}
+
+#[cycle(copy_expr)]
+fn copy_cell(
+    alloc: Global,
+    prop: u32,
+    inner: u32,
+    first: &TExpr,
+    second: &TExpr,
+) -> Result<TNode, NoMemory>
+    ensures { IfOk result (λ n. n ≡ TNode.Cell prop inner first.now second.now) }
+{
+    let first = copy_boxed(alloc, first)?;
+    let second = copy_boxed(alloc, second)?;
+    Ok(TNode::Cell(prop, inner, first, second))
+}
+
+#[cycle(copy_expr)]
+fn copy_reduction(alloc: Global, prop: u32, op: Fold, body: &TExpr) -> Result<TNode, NoMemory>
+    ensures { IfOk result (λ n. n ≡ TNode.Reduce prop op body.now) }
+{
+    Ok(TNode::Reduce(prop, op, copy_boxed(alloc, body)?))
+}
+
+#[cycle(copy_expr)]
+fn copy_part(alloc: Global, object: u32, part: &TExpr) -> Result<TNode, NoMemory>
+    ensures { IfOk result (λ n. n ≡ TNode.Of object part.now) }
+{
+    Ok(TNode::Of(object, copy_boxed(alloc, part)?))
+}
+
+#[cycle(copy_expr)]
+fn copy_bit_select(alloc: Global, base: &TExpr, index: &TExpr, low: i64) -> Result<TNode, NoMemory>
+    ensures { IfOk result (λ n. n ≡ TNode.Select base.now index.now None low) }
+{
+    let base = copy_boxed(alloc, base)?;
+    let first = copy_boxed(alloc, index)?;
+    Ok(TNode::Select {
+        base,
+        first,
+        last: None,
+        low,
+    })
+}
+
+#[cycle(copy_expr)]
+fn copy_part_select(
+    alloc: Global,
+    base: &TExpr,
+    first: &TExpr,
+    last: &TExpr,
+    low: i64,
+) -> Result<TNode, NoMemory>
+    ensures { IfOk result (λ n. n ≡ TNode.Select base.now first.now (Some last.now) low) }
+{
+    let base = copy_boxed(alloc, base)?;
+    let first = copy_boxed(alloc, first)?;
+    let last = copy_boxed(alloc, last)?;
+    Ok(TNode::Select {
+        base,
+        first,
+        last: Some(last),
+        low,
+    })
+}
+
+#[cycle(copy_expr)]
+fn copy_unary(alloc: Global, op: UnOp, arg: &TExpr) -> Result<TNode, NoMemory>
+    ensures { IfOk result (λ n. n ≡ TNode.Unary op arg.now) }
+{
+    let arg = copy_boxed(alloc, arg)?;
+    Ok(TNode::Unary { op, arg })
+}
+
+#[cycle(copy_expr)]
+fn copy_binary(alloc: Global, op: BinOp, left: &TExpr, right: &TExpr) -> Result<TNode, NoMemory>
+    ensures { IfOk result (λ n. n ≡ TNode.Binary op left.now right.now) }
+{
+    let left = copy_boxed(alloc, left)?;
+    let right = copy_boxed(alloc, right)?;
+    Ok(TNode::Binary { op, left, right })
+}
+
+#[cycle(copy_expr)]
+fn copy_choice(alloc: Global, test: &TExpr, yes: &TExpr, no: &TExpr) -> Result<TNode, NoMemory>
+    ensures { IfOk result (λ n. n ≡ TNode.Choice test.now yes.now no.now) }
+{
+    let test = copy_boxed(alloc, test)?;
+    let yes = copy_boxed(alloc, yes)?;
+    let no = copy_boxed(alloc, no)?;
+    Ok(TNode::Choice { test, yes, no })
+}
+
+#[cycle(copy_expr)]
+fn copy_inside(alloc: Global, set: &[TRange], left: &TExpr) -> Result<TNode, NoMemory>
+    ensures { IfOk result (λ n. n ≡ TNode.Inside left.now set.now) }
+{
+    let left = copy_boxed(alloc, left)?;
+    let set = copy_ranges(alloc, set)?;
+    Ok(TNode::Inside { left, set })
+}
+
+#[cycle(copy_expr)]
+fn copy_join(alloc: Global, parts: &[TExpr]) -> Result<TNode, NoMemory>
+    ensures { IfOk result (λ n. n ≡ TNode.Join parts.now) }
+{
+    let parts = copy_exprs(alloc, parts)?;
+    Ok(TNode::Join { parts })
+}
+
+#[cycle(copy_expr)]
+fn copy_replication(alloc: Global, parts: &[TExpr], count: &TExpr) -> Result<TNode, NoMemory>
+    ensures { IfOk result (λ n. n ≡ TNode.Copies count.now parts.now) }
+{
+    let count = copy_boxed(alloc, count)?;
+    let parts = copy_exprs(alloc, parts)?;
+    Ok(TNode::Copies { count, parts })
+}
+
+#[cycle(copy_expr)]
+fn copy_sign(alloc: Global, signed: bool, arg: &TExpr) -> Result<TNode, NoMemory>
+    ensures { IfOk result (λ n. n ≡ TNode.Sign signed arg.now) }
+{
+    let arg = copy_boxed(alloc, arg)?;
+    Ok(TNode::Sign { signed, arg })
+}
+
+/// Copies of expressions.
+#[cycle(copy_expr)]
+pub fn copy_exprs(alloc: Global, parts: &[TExpr]) -> Result<Items<TExpr>, NoMemory>
+    ensures { IfOk result (λ copies. copies ≡ parts.now) }
+{
+    let mut copies = Items::new(alloc);
+    for e in parts {
+        copies.push(copy_expr(alloc, e)?)?;
+    }
+    Ok(copies)
+}
+
+#[cycle(copy_expr)]
+fn copy_ranges(alloc: Global, set: &[TRange]) -> Result<Items<TRange>, NoMemory>
+    ensures { IfOk result (λ copies. copies ≡ set.now) }
+{
+    let mut copies = Items::new(alloc);
+    for range in set {
+        copies.push(copy_range(alloc, range)?)?;
+    }
+    Ok(copies)
+}
+
+/// A copy of a member of a set.
+#[cycle(copy_expr)]
+pub fn copy_range(alloc: Global, range: &TRange) -> Result<TRange, NoMemory>
+    ensures { IfOk result (λ copy. copy ≡ range.now) }
+{
+    match range {
+        TRange::One(e) => Ok(TRange::One(copy_expr(alloc, e)?)),
+        TRange::Span(low, high) => {
+            let low = copy_bound(alloc, low)?;
+            Ok(TRange::Span(low, copy_bound(alloc, high)?))
+        }
+    }
+}
+
+#[cycle(copy_expr)]
+fn copy_bound(alloc: Global, bound: &TBound) -> Result<TBound, NoMemory>
+    ensures { IfOk result (λ copy. copy ≡ bound.now) }
+{
+    match bound {
+        TBound::Value(e) => Ok(TBound::Value(copy_expr(alloc, e)?)),
+        TBound::Dollar => Ok(TBound::Dollar),
+    }
+}
