@@ -2,10 +2,10 @@
 use Rattle.std.proofs.Common.{◌≡◌, ◌<◌, ◌≤◌, ◌+◌, ◌==◌, ◌^◌, ℕ, zero, suc, Bool, true, false, ◌&&◌, nat_lt, if◌then◌else◌, List, [], ◌∷◌, length, sum, slice_get, slice_index, Option, Some, None, IfSome, bytes_eq, refl, ap, arith}
 use Rattle.std.proofs.lemmas.Bool.{ltb-true}
 use Rattle.std.proofs.lemmas.List.Sums.{sum_by-cons}
-use Rattle.svr_typed.specs.declared.operator.UnOp.TheVariants as un
-use Rattle.svr_typed.specs.declared.operator.UnOp.{UnOp}
-use Rattle.svr_typed.specs.declared.operator.BinOp.TheVariants as bin
-use Rattle.svr_typed.specs.declared.operator.BinOp.{BinOp}
+use Rattle.svr_operator.specs.declared.UnOp.TheVariants as un
+use Rattle.svr_operator.specs.declared.UnOp.{UnOp}
+use Rattle.svr_operator.specs.declared.BinOp.TheVariants as bin
+use Rattle.svr_operator.specs.declared.BinOp.{BinOp}
 use Rattle.svr_typed.specs.ExprTerm.{ExprTerm}
 use Rattle.svr_typed.specs.ItemTerm.{ItemTerm, items_of}
 use Rattle.svr_tree.specs.ExprTree.{ExprTree, number, path, unary, binary, paren}

@@ -1,8 +1,8 @@
 -- The declarations of a class of bit properties with one constraint block (IEEE 1800-2017, A.1.9 and A.1.10), and of its one object and call (A.6).
 use Rattle.std.specs.Prelude.{ℕ, ◌+◌, ◌==◌, Bool, true, false, not, ◌&&◌, nat_lt, is_none, if◌then◌else◌, List, [], ◌∷◌, Option, Some, None}
 use Rattle.std.specs.Str.{bytes_eq}
-use Rattle.svr_typed.specs.declared.Rand.{Rand}
-use Rattle.svr_typed.specs.declared.Rand.TheVariants as rand
+use Rattle.svr_operator.specs.declared.Rand.{Rand}
+use Rattle.svr_operator.specs.declared.Rand.TheVariants as rand
 use Rattle.svr_tree.specs.declared.decl.VectorKind.TheVariants as vector_kind
 use Rattle.svr_tree.specs.declared.script.UnitKind.{UnitKind}
 use Rattle.svr_tree.specs.declared.script.UnitKind.TheVariants as unit_kind

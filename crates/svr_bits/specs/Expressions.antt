@@ -1,9 +1,9 @@
 -- Expressions over scalar bit properties: literals of 32 bits, signed (IEEE 1800-2017, 5.7.1), properties, parentheses, `!`, comparisons, `&&` and `||` (11.4). Each is typed by its operands (11.6, 11.8).
 use Rattle.std.specs.Prelude.{ℕ, ◌==◌, ◌^◌, Bool, true, false, ◌&&◌, nat_lt, if◌then◌else◌, List, [], ◌∷◌, Option, Some, None, slice_index}
-use Rattle.svr_typed.specs.declared.operator.UnOp.{UnOp}
-use Rattle.svr_typed.specs.declared.operator.UnOp.TheVariants as un
-use Rattle.svr_typed.specs.declared.operator.BinOp.{BinOp}
-use Rattle.svr_typed.specs.declared.operator.BinOp.TheVariants as bin
+use Rattle.svr_operator.specs.declared.UnOp.{UnOp}
+use Rattle.svr_operator.specs.declared.UnOp.TheVariants as un
+use Rattle.svr_operator.specs.declared.BinOp.{BinOp}
+use Rattle.svr_operator.specs.declared.BinOp.TheVariants as bin
 use Rattle.svr_typed.specs.ExprTerm.{ExprTerm, typed}
 use Rattle.svr_typed.specs.ExprTerm as term
 use Rattle.svr_typed.specs.ItemTerm.{ItemTerm}

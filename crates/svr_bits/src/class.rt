@@ -3,7 +3,8 @@
 ghost use Rattle.std.specs.Prelude.{◌≡◌, ◌<◌, ◌^◌, IfOk, IfSome, length, option_map, nat_le, sum};
 ghost use Rattle.svr_tree.specs.DeclTree.{class_tree};
 ghost use Rattle.svr_tree.specs.ScriptTree.{script_tree};
-ghost use Rattle.svr_bits.specs.Names.{names_of, referred};
+ghost use Rattle.svr_token.specs.Names.{names_of};
+ghost use Rattle.svr_bits.specs.Names.{referred};
 ghost use Rattle.svr_bits.specs.Expressions.{items_typed};
 ghost use Rattle.svr_bits.specs.Form as spec;
 ghost use Rattle.svr_bits.specs.Form.{bit_term, parts_term, width_limit};
@@ -11,11 +12,13 @@ ghost use Rattle.svr_bits.specs.Ready.{IsReady, AreGood};
 
 use crate::declaration::{ClassParts, parts};
 use crate::expression::items;
-use crate::names::{Names, are_apart, is_among, is_nil, only};
+use crate::names::{are_apart, is_among, is_nil, only};
 use crate::object::object;
 use sqlite_items::Items;
 use std::alloc::{AllocError, Global};
-use svr_tree::{ClassDecl, NoMemory, Script, TItem, Token};
+use svr_token::{Names, Token};
+use svr_tree::{ClassDecl, NoMemory, Script};
+use svr_typed::TItem;
 
 /// A class of scalar bit properties, typed, and its object. The items name properties by their places in `names`.
 #[derive(Drop)]

@@ -3,16 +3,19 @@
 ghost use Rattle.std.specs.Prelude.{◌≡◌, ◌+◌, ◌<◌, IfOk, option_map, map};
 ghost use Rattle.svr_tree.specs.ExprTree.{expr_tree};
 ghost use Rattle.svr_tree.specs.DeclTree.{packed_tree, type_tree, declarator_tree, property_tree, class_item_tree};
-ghost use Rattle.svr_bits.specs.Names.{names_of, referred};
+ghost use Rattle.svr_token.specs.Names.{names_of};
+ghost use Rattle.svr_bits.specs.Names.{referred};
 ghost use Rattle.svr_bits.specs.Declarations as spec;
 ghost use Rattle.svr_bits.specs.Form.{parts_term};
 
 use crate::expression::literal;
-use crate::names::{Names, only};
+use crate::names::only;
 use std::alloc::{AllocError, Global};
+use svr_operator::Rand;
+use svr_token::Names;
 use svr_tree::{
     ClassItem, ConstraintBlock, DataType, Declarator, Expr, IntegerType, PackedRange, PropertyDecl,
-    Rand, VectorKind,
+    VectorKind,
 };
 
 /// The names and widths of the properties, in the order of their declaration, and the block behind them.

@@ -5,14 +5,18 @@ ghost use Rattle.svr_typed.specs.ExprTerm.{expr_term};
 ghost use Rattle.svr_typed.specs.ItemTerm.{item_term};
 ghost use Rattle.svr_tree.specs.ExprTree.{expr_tree};
 ghost use Rattle.svr_tree.specs.ItemTree.{item_tree, item_trees};
-ghost use Rattle.svr_bits.specs.Names.{names_of, seen};
+ghost use Rattle.svr_token.specs.Names.{names_of};
+ghost use Rattle.svr_bits.specs.Names.{seen};
 ghost use Rattle.svr_bits.specs.Expressions as spec;
 ghost use Rattle.svr_bits.specs.Items.{item_list};
 
-use crate::names::{Names, place};
+use crate::names::place;
 use sqlite_items::Items;
 use std::alloc::Global;
-use svr_tree::{BinOp, Expr, Item, NoMemory, Scope, TExpr, TItem, TNode, UnOp};
+use svr_operator::{BinOp, UnOp};
+use svr_token::Names;
+use svr_tree::{Expr, Item, NoMemory, Scope};
+use svr_typed::{TExpr, TItem, TNode};
 
 /// The value of a literal of 32 bits, signed.
 pub(crate) fn literal(value: u64, width: u8, signed: bool) -> Option<u64>

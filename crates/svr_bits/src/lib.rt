@@ -10,4 +10,3 @@ mod object;
 mod tests;
 
 pub use class::{BitClass, bit_class};
-pub use names::Names;

@@ -5,11 +5,13 @@ ghost use Rattle.svr_tree.specs.ExprTree.{expr_tree};
 ghost use Rattle.svr_tree.specs.DeclTree.{type_tree, var_init_tree, var_declarator_tree, var_tree};
 ghost use Rattle.svr_tree.specs.StmtTree.{randomize_tree, stmt_tree};
 ghost use Rattle.svr_tree.specs.ScriptTree.{unit_tree};
-ghost use Rattle.svr_bits.specs.Names.{names_of, referred};
+ghost use Rattle.svr_token.specs.Names.{names_of};
+ghost use Rattle.svr_bits.specs.Names.{referred};
 ghost use Rattle.svr_bits.specs.Declarations as spec;
 
 use crate::expression::path_name;
-use crate::names::{Names, is_nil, only};
+use crate::names::{is_nil, only};
+use svr_token::Names;
 use svr_tree::{
     CallForm, DataType, Expr, RandomizeArgs, RandomizeCall, Stmt, UnitDecl, UnitKind, VarDecl,
     VarDeclarator, VarInit,

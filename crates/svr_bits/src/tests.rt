@@ -1,11 +1,13 @@
-use crate::{Names, bit_class};
+use crate::bit_class;
 use sqlite_items::Items;
 use std::alloc::{AllocError, Global};
 use std::test::Fail;
+use svr_operator::{BinOp, Rand};
+use svr_token::Names;
 use svr_tree::{
-    BinOp, CallForm, ClassDecl, ClassItem, ConstraintBlock, DataType, Declarator, Expr,
-    IntegerType, Item, Kind, NoMemory, PropertyDecl, Rand, RandomizeArgs, RandomizeCall, Scope,
-    Script, Stmt, Token, Top, UnitDecl, UnitKind, VarDecl, VarDeclarator, VarInit, VectorKind,
+    CallForm, ClassDecl, ClassItem, ConstraintBlock, DataType, Declarator, Expr, IntegerType, Item,
+    Kind, NoMemory, PropertyDecl, RandomizeArgs, RandomizeCall, Scope, Script, Stmt, Token, Top,
+    UnitDecl, UnitKind, VarDecl, VarDeclarator, VarInit, VectorKind,
 };
 
 fn single<T: Drop>(alloc: Global, item: T) -> Result<Items<T>, AllocError> {

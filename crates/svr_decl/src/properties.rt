@@ -9,8 +9,9 @@ ghost use Rattle.svr_decl.specs.DeclRules as rules;
 
 use crate::reader::Reader;
 use sqlite_items::Items;
+use svr_operator::Rand;
 use svr_reader::{Cursor, Fixed, ReadFault, listing};
-use svr_tree::{Declarator, Dimension, Mark, PropertyDecl, Rand, Word};
+use svr_tree::{Declarator, Dimension, Mark, PropertyDecl, Word};
 
 impl Reader {
     // `size` or `first:last`, and the bracket that ends it.

@@ -4,10 +4,11 @@ use crate::{class, typedef, var, var_on};
 use sqlite_items::Items;
 use std::alloc::Global;
 use std::test::Fail;
+use svr_operator::Rand;
 use svr_reader::{Cursor, ReadFault};
 use svr_tree::{
     AtomKind, ClassDecl, ClassItem, DataType, Declarator, Dimension, Expr, IntegerType, Item,
-    Lexeme, Mark, MemberDecl, NameKind, Rand, Signing, TypeDefinition, VarDeclarator, VarInit,
+    Lexeme, Mark, MemberDecl, NameKind, Signing, TypeDefinition, VarDeclarator, VarInit,
     VectorKind, Word,
 };
 

@@ -4,8 +4,8 @@ use Rattle.svr_token.specs.declared.Lexeme.{Lexeme}
 use Rattle.svr_token.specs.declared.Lexeme.TheVariants as lexeme
 use Rattle.svr_token.specs.declared.Word.TheVariants as w
 use Rattle.svr_token.specs.declared.Mark.TheVariants as m
-use Rattle.svr_typed.specs.declared.Rand.{Rand}
-use Rattle.svr_typed.specs.declared.Rand.TheVariants as rand
+use Rattle.svr_operator.specs.declared.Rand.{Rand}
+use Rattle.svr_operator.specs.declared.Rand.TheVariants as rand
 use Rattle.svr_tree.specs.Tokens as tokens
 use Rattle.svr_tree.specs.Tokens.{Tok, Entry, Any, Name, FitEach, word, mark, listed, Each, OneOrMore}
 use Rattle.svr_tree.specs.ItemTree.{ItemTree, ItemTrees, no_items, more_items, items_of}

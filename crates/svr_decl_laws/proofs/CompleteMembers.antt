@@ -4,8 +4,8 @@ use Rattle.svr_token.specs.declared.Lexeme.{Lexeme}
 use Rattle.svr_token.specs.declared.Lexeme.TheVariants as lexeme
 use Rattle.svr_token.specs.declared.Word.TheVariants as w
 use Rattle.svr_token.specs.declared.Mark.TheVariants as m
-use Rattle.svr_typed.specs.declared.Rand.{Rand}
-use Rattle.svr_typed.specs.declared.Rand.TheVariants as rand
+use Rattle.svr_operator.specs.declared.Rand.{Rand}
+use Rattle.svr_operator.specs.declared.Rand.TheVariants as rand
 use Rattle.svr_tree.specs.Tokens.{Tok, Entry, Name, FitEach, word, mark, listed, OneOrMore}
 use Rattle.svr_tree.specs.ExprTree.{ExprTree}
 use Rattle.svr_tree.specs.ExprGrammar.{expr_spelling, IsExpr, expr_height}

@@ -2,8 +2,8 @@
 use Rattle.std.proofs.Common.{◌≡◌, ℕ, max, List, [], ◌∷◌, ◌++◌, Option, Ok, refl, arith}
 use Rattle.svr_token.specs.declared.Word.TheVariants as w
 use Rattle.svr_token.specs.declared.Mark.TheVariants as m
-use Rattle.svr_typed.specs.declared.Rand.{Rand}
-use Rattle.svr_typed.specs.declared.Rand.TheVariants as rand
+use Rattle.svr_operator.specs.declared.Rand.{Rand}
+use Rattle.svr_operator.specs.declared.Rand.TheVariants as rand
 use Rattle.svr_tree.specs.Tokens.{Tok, Name, FitEach, word, mark, listed, OneOrMore}
 use Rattle.svr_tree.specs.ExprGrammar.{expr_spelling, IsExpr, expr_height}
 use Rattle.svr_tree.specs.DeclTree.{DefinitionTree, TypeTree, DimensionTree, PropertyTree}

@@ -47,3 +47,9 @@ factors (suc n) zero w e h = absurd (omega (arith, e, h))
 factors (suc n) (suc m) w e h =
     let more : suc n * suc m ≡ n * suc m + suc m = omega arith in
     (omega arith, omega arith, omega (arith, e, more))
+
+-- each size has a place for 1
+pub one_fits : (w : ℕ) → 1 ≤ w → 1 < 2 ^ w
+one_fits w h =
+    let p = pow_mono {i = 1} {j = w} h in
+    omega (arith, p)

@@ -1,12 +1,12 @@
 -- Expressions with their values and items with their truth, worked out by hand from the standard's rules.
 use Rattle.std.specs.Prelude.{◌==◌, ◌^◌, ℕ, pos, Bool, true, false, List, [], ◌∷◌, None, Some, length, slice_index, slice_index_or}
-use Rattle.svr_typed.specs.declared.operator.UnOp.{UnOp}
-use Rattle.svr_typed.specs.declared.operator.UnOp.TheVariants as un
-use Rattle.svr_typed.specs.declared.operator.BinOp.{BinOp}
-use Rattle.svr_typed.specs.declared.operator.BinOp.TheVariants as bin
-use Rattle.svr_typed.specs.declared.operator.Fold.{Fold}
-use Rattle.svr_typed.specs.declared.operator.Fold.TheVariants as fold
-use Rattle.svr_typed.specs.declared.item.Share.TheVariants as share
+use Rattle.svr_operator.specs.declared.UnOp.{UnOp}
+use Rattle.svr_operator.specs.declared.UnOp.TheVariants as un
+use Rattle.svr_operator.specs.declared.BinOp.{BinOp}
+use Rattle.svr_operator.specs.declared.BinOp.TheVariants as bin
+use Rattle.svr_operator.specs.declared.Fold.{Fold}
+use Rattle.svr_operator.specs.declared.Fold.TheVariants as fold
+use Rattle.svr_operator.specs.declared.Share.TheVariants as share
 use Rattle.svr_typed.specs.ExprTerm.{ExprTerm, typed, NodeTerm, number, prop, element, cell, size, script, loop_index, reduce, bit_select, part_select, unary, binary, choice, inside, join, copies, sign, exprs_of, RangeTerm, one, span, ranges_of, value, dollar}
 use Rattle.svr_typed.specs.ItemTerm.{DistTerm, ItemTerm, plain, unique, implies, branch, foreach, disable, solve, items_of, no_else, else_items}
 use Rattle.svr_eval.specs.Reading.{Reading}

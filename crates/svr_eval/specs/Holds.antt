@@ -1,7 +1,7 @@
 -- Whether a constraint item holds (IEEE 1800-2017, 18.5).
 use Rattle.std.specs.Prelude.{◌≡◌, ◌==◌, ℕ, zero, suc, ◌+◌, ◌/◌, ◌≤◌, Bool, true, false, not, ◌&&◌, ◌||◌, if◌then◌else◌, List, [], ◌∷◌, ◌++◌, Option, None, Some, ⊤, ◌⊎◌}
 use Rattle.std.specs.List.{list_any}
-use Rattle.svr_typed.specs.declared.item.Share.{Share}
+use Rattle.svr_operator.specs.declared.Share.{Share}
 use Rattle.svr_typed.specs.ExprTerm.{ExprTerm, ExprTerms, no_exprs, more_exprs}
 use Rattle.svr_typed.specs.ItemTerm.{DistTerm, ItemTerm, plain, unique, implies, branch, foreach, disable, solve, ItemTerms, no_items, more_items, ElseTerm, no_else, else_items}
 use Rattle.svr_eval.specs.Reading.{Reading}

@@ -2,12 +2,12 @@
 -- w is the width at which it is computed, s whether its operands are taken as signed.
 use Rattle.std.specs.Prelude.{◌==◌, ℕ, zero, suc, ◌-◌, ◌%◌, ◌^◌, max, Bool, true, false, not, ◌&&◌, ◌||◌, count_ones}
 use Rattle.svr_num.specs.Num.{add_of, sub_of, mul_of, div_of, rem_of, neg_of, not_of, and_of, or_of, xor_of, shl_of, shr_of, sar_of, less_of}
-use Rattle.svr_typed.specs.declared.operator.UnOp.{UnOp}
-use Rattle.svr_typed.specs.declared.operator.UnOp.TheVariants as un
-use Rattle.svr_typed.specs.declared.operator.BinOp.{BinOp}
-use Rattle.svr_typed.specs.declared.operator.BinOp.TheVariants as bin
-use Rattle.svr_typed.specs.declared.operator.Fold.{Fold}
-use Rattle.svr_typed.specs.declared.operator.Fold.TheVariants as f
+use Rattle.svr_operator.specs.declared.UnOp.{UnOp}
+use Rattle.svr_operator.specs.declared.UnOp.TheVariants as un
+use Rattle.svr_operator.specs.declared.BinOp.{BinOp}
+use Rattle.svr_operator.specs.declared.BinOp.TheVariants as bin
+use Rattle.svr_operator.specs.declared.Fold.{Fold}
+use Rattle.svr_operator.specs.declared.Fold.TheVariants as f
 use Rattle.svr_eval.specs.declared.operator.Arithmetic.{Arithmetic}
 use Rattle.svr_eval.specs.declared.operator.Arithmetic.TheVariants as a
 use Rattle.svr_eval.specs.declared.operator.Shift.{Shift}

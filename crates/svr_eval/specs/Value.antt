@@ -2,7 +2,6 @@
 use Rattle.std.specs.Prelude.{◌==◌, ℕ, zero, suc, ◌+◌, ◌-◌, ◌*◌, ◌/◌, ◌%◌, ◌^◌, max, ℤ, pos, negsuc, ◌-ℤ◌, Bool, true, false, not, ◌&&◌, ◌||◌, nat_lt, cond, if◌then◌else◌, Option, Some, None, List, [], ◌∷◌, ◌++◌, length, slice_index}
 use Rattle.svr_num.specs.Num.{read_of, extend_of, less_of}
 use Rattle.svr_typed.specs.ExprTerm.{ExprTerm, typed, NodeTerm, number, prop, element, cell, size, script, loop_index, reduce, of_object, bit_select, part_select, unary, binary, choice, inside, join, copies, sign, ExprTerms, no_exprs, more_exprs, RangeTerm, one, span, RangeTerms, no_ranges, more_ranges, BoundTerm, value, dollar}
-use Rattle.svr_typed.specs.declared.operator.Fold.{Fold}
 use Rattle.svr_eval.specs.declared.operator.BinaryKind.{BinaryKind}
 use Rattle.svr_eval.specs.declared.operator.BinaryKind.TheVariants.{InContext, Shifted, ByPair, Logical}
 use Rattle.svr_eval.specs.declared.operator.UnaryKind.{UnaryKind}
@@ -249,7 +248,3 @@ module _ (a : Reading) (env : List ℕ) where
   -- as many copies of the joined parts as the count says (11.4.12.1)
   abbrev pub replicated : ExprTerm → ExprTerms → ℕ
   replicated count parts = copied (val a env count (size_of count) (sign_of count)) (sizes parts) (joined a env parts)
-
-  -- the reduction of an array by its body (7.12.3)
-  abbrev pub reduced : ℕ → Fold → ExprTerm → ℕ
-  reduced p op body = fold_of op (size_of body) (a.size p) (λ i. val a (env ++ i ∷ []) body (size_of body) (sign_of body))

@@ -18,8 +18,15 @@ impl Assign {
     pub fn element(&self, prop: u32, index: u64) -> u64
         ensures { result ≡ (reading_of self.now).element prop index }
     {
+        self.element_at(prop, u128::from(index))
+    }
+
+    /// The number of a property at a place, which may be past all that memory has.
+    pub(crate) fn element_at(&self, prop: u32, place: u128) -> u64
+        ensures { result ≡ (reading_of self.now).element prop place }
+    {
         match self.values.as_slice().get(prop as usize) {
-            Some(numbers) => number_at(numbers.as_slice(), index),
+            Some(numbers) => number_at(numbers.as_slice(), place),
             None => 0,
         }
     }
@@ -38,15 +45,16 @@ impl Assign {
     pub fn script(&self, variable: u32) -> u64
         ensures { result ≡ (reading_of self.now).script variable }
     {
-        number_at(self.script.as_slice(), u64::from(variable))
+        number_at(self.script.as_slice(), u128::from(variable))
     }
 }
 
-fn number_at(numbers: &[u64], index: u64) -> u64
+fn number_at(numbers: &[u64], index: u128) -> u64
     ensures { result ≡ slice_index numbers.now index }
 {
-    match numbers.get(index as usize) {
-        Some(number) => *number,
-        None => 0,
+    if index < numbers.len() as u128 {
+        numbers[index as usize]
+    } else {
+        0
     }
 }

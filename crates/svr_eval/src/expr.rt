@@ -2,7 +2,7 @@
 
 ghost use Rattle.std.specs.Prelude.{◌≡◌, ◌≤◌, ◌<◌, ◌+◌, ◌*◌, ◌^◌, ℕ, [], length};
 ghost use Rattle.svr_num.specs.Num.{extend_of};
-ghost use Rattle.svr_typed.specs.ExprTerm.{expr_term, expr_terms, range_term, range_terms, bound_term, unary as unary_term, binary as binary_term};
+ghost use Rattle.svr_typed.specs.ExprTerm.{expr_term, expr_terms, range_term, range_terms, bound_term, reduce as reduce_term, unary as unary_term, binary as binary_term};
 ghost use Rattle.svr_eval.specs.Reading.{blank, reading_of};
 ghost use Rattle.svr_eval.specs.Typed.{IsConstant, IsTyped, AreTyped, RangesAreTyped, RangeIsTyped, BoundIsTyped, CanRead, AllCanRead, RangesCanRead, RangeCanRead, BoundCanRead};
 ghost use Rattle.svr_eval.specs.Operator.{unary_size, binary_size};
@@ -16,7 +16,8 @@ use crate::operator::{
 };
 use crate::parts::{bits, bits_from, cell_at, copied, element_at, join, literal, place_of, read, truth};
 use svr_num::Bits;
-use svr_typed::{BinOp, Fold, TBound, TExpr, TNode, TRange, UnOp};
+use svr_operator::{BinOp, Fold, UnOp};
+use svr_typed::{TBound, TExpr, TNode, TRange};
 
 /// The value at the width and the sign of a context, which is no narrower than the expression.
 #[cycle(value)]
@@ -37,8 +38,7 @@ pub fn value_at(e: &TExpr, width: u8, signed: bool, a: &Assign, env: &Env) -> Bi
             bits(element_at(a, *prop, at), e.width).extend(width, signed)
         }
         TNode::Cell(prop, inner, first, second) => {
-            let cell = cell(*prop, *inner, first.get(), second.get(), a, env);
-            bits(cell, e.width).extend(width, signed)
+            cell(*prop, *inner, e.width, first.get(), second.get(), a, env).extend(width, signed)
         }
         TNode::Size(prop, inner) => {
             bits(u64::from(a.size(*prop) / *inner), 32).extend(width, signed)
@@ -46,7 +46,7 @@ pub fn value_at(e: &TExpr, width: u8, signed: bool, a: &Assign, env: &Env) -> Bi
         TNode::Script(variable) => bits(a.script(*variable), e.width).extend(width, signed),
         TNode::Loop(k) => bits(u64::from(env.loop_index(*k)), 32).extend(width, signed),
         TNode::Reduce(prop, op, body) => {
-            reduced(*prop, *op, body.get(), a, env).extend(width, signed)
+            reduced(*prop, *op, body.get(), width, signed, a, env)
         }
         TNode::Of(_, part) => value_at(part.get(), width, signed, a, env),
         TNode::Select {
@@ -94,36 +94,58 @@ pub fn value(e: &TExpr, a: &Assign, env: &Env) -> Bits
     value_at(e, e.width, e.signed, a, env)
 }
 
-/// The element that two indexes name.
+/// The element of `width` bits that two indexes name.
 #[cycle(value)]
-fn cell(prop: u32, inner: u32, first: &TExpr, second: &TExpr, a: &Assign, env: &Env) -> u64
+fn cell(
+    prop: u32,
+    inner: u32,
+    width: u8,
+    first: &TExpr,
+    second: &TExpr,
+    a: &Assign,
+    env: &Env,
+) -> Bits
     requires first_typed { IsTyped (expr_term first.now) }
     requires second_typed { IsTyped (expr_term second.now) }
     requires first_reads { CanRead (reading_of a.now) (length env.now) (expr_term first.now) }
     requires second_reads { CanRead (reading_of a.now) (length env.now) (expr_term second.now) }
-    ensures { result ≡ spec.cell_at (reading_of a.now) prop inner
+    requires low { 1 ≤ width }
+    requires high { width ≤ 64 }
+    requires fits { (i : ℕ) → (reading_of a.now).element prop i < 2 ^ width }
+    ensures value { result.value ≡ spec.cell_at (reading_of a.now) prop inner
         (spec.index_read (reading_of a.now) env.now (expr_term first.now)) (spec.index_read (reading_of a.now) env.now (expr_term second.now)) }
+    ensures width { result.width ≡ width }
 {
     let row = read(value(first, a, env), first.signed);
     let column = read(value(second, a, env), second.signed);
-    cell_at(a, prop, inner, row, column)
+    bits(cell_at(a, prop, inner, row, column), width)
 }
 
-/// The reduction of an array by its body, at the body's size.
+/// The reduction of an array by its body, which is computed alone.
 #[cycle(value)]
-fn reduced(prop: u32, op: Fold, body: &TExpr, a: &Assign, env: &Env) -> Bits
+fn reduced(
+    prop: u32,
+    op: Fold,
+    body: &TExpr,
+    width: u8,
+    signed: bool,
+    a: &Assign,
+    env: &Env,
+) -> Bits
     requires typed { IsTyped (expr_term body.now) }
     requires reads { CanRead (reading_of a.now) (length env.now + 1) (expr_term body.now) }
     requires depth { length env.now < 256 }
-    ensures value { result.value ≡ spec.reduced (reading_of a.now) env.now prop op (expr_term body.now) }
-    ensures width { result.width ≡ spec.size_of (expr_term body.now) }
+    requires wide { body.now.width ≤ width }
+    requires high { width ≤ 64 }
+    ensures value { result.value ≡ spec.node_val (reading_of a.now) env.now 0 signed (reduce_term prop op (expr_term body.now)) width signed }
+    ensures width { result.width ≡ width }
 {
     let operator = fold_operator(op);
     let mut total = fold_start(op, body.width);
     for i in 0..a.size(prop) {
         total = operator.apply(total, value(body, a, &env.inner(i)), false);
     }
-    total
+    total.extend(width, signed)
 }
 
 /// `width` bits of `base` down to the bit that `last` names.

@@ -3,8 +3,9 @@
 ghost use Rattle.std.specs.Prelude.{◌≡◌, ◌≤◌};
 ghost use Rattle.svr_eval.specs.Operator as spec;
 
+use crate::parts::bits;
 use svr_num::Bits;
-use svr_typed::{BinOp, Fold, UnOp};
+use svr_operator::{BinOp, Fold, UnOp};
 
 /// A binary operator whose operands both have the width and sign of the context (IEEE 1800-2017, 11.4.3 and 11.4.8).
 #[derive(Clone, Copy, Debug, PartialEq, Eq)]
@@ -152,9 +153,9 @@ pub fn fold_start(op: Fold, width: u8) -> Bits
     ensures width { result.width ≡ width }
 {
     match op {
-        Fold::Sum | Fold::Or | Fold::Xor => Bits::wrap(0, width),
-        Fold::Product => Bits::wrap(1, width),
-        Fold::And => Bits::wrap(0, width).not(),
+        Fold::Sum | Fold::Or | Fold::Xor => bits(0, width),
+        Fold::Product => bits(1, width),
+        Fold::And => bits(0, width).not(),
     }
 }
 

@@ -64,13 +64,12 @@ pub(crate) fn place_of(number: Bits, signed: bool, low: i64) -> i128
 
 /// The element that an index names, 0 where there is none.
 pub(crate) fn element_at(a: &Assign, prop: u32, index: i128) -> u64
-    requires { index <ℤ pos (2 ^ 64) }
     ensures { result ≡ spec.element_at (reading_of a.now) prop index }
 {
     if index < 0 {
         0
     } else {
-        a.element(prop, index as u64)
+        a.element_at(prop, index as u128)
     }
 }
 
@@ -80,10 +79,22 @@ pub(crate) fn cell_at(a: &Assign, prop: u32, inner: u32, row: i128, column: i128
     requires column { column <ℤ pos (2 ^ 64) }
     ensures { result ≡ spec.cell_at (reading_of a.now) prop inner row column }
 {
-    if row < 0 || column < 0 || column >= i128::from(inner) {
+    if row < 0 || column < 0 {
         0
     } else {
-        element_at(a, prop, row * i128::from(inner) + column)
+        cell_in(a, prop, inner, row as u128, column as u128)
+    }
+}
+
+/// The element in the row and the column, 0 where a row has no such column.
+fn cell_in(a: &Assign, prop: u32, inner: u32, row: u128, column: u128) -> u64
+    requires { row < 2 ^ 64 }
+    ensures { result ≡ spec.cell_at (reading_of a.now) prop inner (pos row) (pos column) }
+{
+    if column < u128::from(inner) {
+        a.element_at(prop, row * u128::from(inner) + column)
+    } else {
+        0
     }
 }
 

@@ -1,7 +1,8 @@
 use crate::{Assign, Env, holds, value};
 use sqlite_items::Items;
 use std::test::Fail;
-use svr_typed::{BinOp, TExpr, TItem, TNode};
+use svr_operator::BinOp;
+use svr_typed::{TExpr, TItem, TNode};
 
 // 255 + 1 at 8 bits, and as an item.
 #[test]

@@ -7,8 +7,8 @@ use Rattle.svr_token.specs.declared.Mark.TheVariants as m
 use Rattle.svr_token.specs.declared.NameKind.{NameKind}
 use Rattle.svr_token.specs.declared.SystemName.{SystemName}
 use Rattle.svr_token.specs.declared.SystemName.TheVariants as system
-use Rattle.svr_typed.specs.declared.UnOp.{UnOp}
-use Rattle.svr_typed.specs.declared.BinOp.{BinOp}
+use Rattle.svr_operator.specs.declared.UnOp.{UnOp}
+use Rattle.svr_operator.specs.declared.BinOp.{BinOp}
 use Rattle.svr_tree.specs.declared.expr.Scope.{Scope}
 use Rattle.svr_tree.specs.declared.expr.Scope.TheVariants as scope
 use Rattle.svr_tree.specs.ExprTree.{ExprTree, number, path, bit_select, part_select, unary, binary, choice, inside, join, copies, sign, paren, RangeTree, one, span, BoundTree, value, dollar, exprs_of, ranges_of}

@@ -12,9 +12,9 @@ ghost use Rattle.svr_expr.specs.Parts.{R, Nests};
 use crate::link::{Link, goes_on, least_right, link_level, link_of, precedence};
 use crate::parts::Parts;
 use std::alloc::Global;
+use svr_operator::BinOp;
 use svr_reader::{Cursor, ReadFault, TURNS};
 use svr_tree::{Expr, Mark};
-use svr_typed::BinOp;
 
 impl<F: Fn(Global, &mut Cursor<'_>, usize, u8) -> Result<(Expr, usize), ReadFault>> Parts<F> {
     /// The right operand of a binary operator.

@@ -4,8 +4,8 @@ ghost use Rattle.std.specs.Prelude.{◌≡◌, ◌≤◌};
 ghost use Rattle.svr_tree.specs.Operators as operators;
 ghost use Rattle.svr_expr.specs.Links as spec;
 
+use svr_operator::{BinOp, UnOp};
 use svr_tree::{Lexeme, Mark, Word};
-use svr_typed::{BinOp, UnOp};
 
 /// How an expression may go on behind its left operand.
 #[derive(Clone, Copy, Debug, PartialEq, Eq)]

@@ -11,9 +11,9 @@ use crate::link::unary_of;
 use crate::parts::Parts;
 use sqlite_items::Items;
 use std::alloc::Global;
+use svr_operator::UnOp;
 use svr_reader::{Cursor, ReadFault};
 use svr_tree::{Expr, Lexeme, Mark, SystemName, Word};
-use svr_typed::UnOp;
 
 impl<F: Fn(Global, &mut Cursor<'_>, usize, u8) -> Result<(Expr, usize), ReadFault>> Parts<F> {
     /// A literal of this value, width and sign.

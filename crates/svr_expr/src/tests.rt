@@ -6,8 +6,9 @@ use crate::{
 };
 use std::alloc::Global;
 use std::test::Fail;
+use svr_operator::{BinOp, UnOp};
 use svr_reader::{Cursor, ReadFault};
-use svr_tree::{BinOp, Bound, Expr, Lexeme, Mark, NameKind, Range, Scope, SystemName, UnOp, Word};
+use svr_tree::{Bound, Expr, Lexeme, Mark, NameKind, Range, Scope, SystemName, Word};
 
 const N: Lexeme = Lexeme::Name(NameKind::Plain);
 

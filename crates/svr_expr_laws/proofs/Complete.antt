@@ -4,9 +4,9 @@ use Rattle.svr_token.specs.declared.Lexeme.{Lexeme}
 use Rattle.svr_token.specs.declared.Lexeme.TheVariants as lexeme
 use Rattle.svr_token.specs.declared.Word.TheVariants as w
 use Rattle.svr_token.specs.declared.Mark.TheVariants as m
-use Rattle.svr_typed.specs.declared.UnOp.{UnOp}
-use Rattle.svr_typed.specs.declared.UnOp.TheVariants as u
-use Rattle.svr_typed.specs.declared.BinOp.{BinOp}
+use Rattle.svr_operator.specs.declared.UnOp.{UnOp}
+use Rattle.svr_operator.specs.declared.UnOp.TheVariants as u
+use Rattle.svr_operator.specs.declared.BinOp.{BinOp}
 use Rattle.svr_tree.specs.Tokens.{Tok, Entry, On, Any, FitEach, mark, word}
 use Rattle.svr_tree.specs.DeclGrammar.{greatest}
 use Rattle.svr_tree.specs.Operators.{unary_mark, binary_mark, precedence, least_right}

@@ -6,7 +6,7 @@ use Rattle.svr_token.specs.declared.Word.TheVariants as w
 use Rattle.svr_token.specs.declared.Mark.{Mark}
 use Rattle.svr_token.specs.declared.Mark.TheVariants as m
 use Rattle.svr_token.specs.declared.NameKind.{NameKind}
-use Rattle.svr_typed.specs.declared.UnOp.{UnOp}
+use Rattle.svr_operator.specs.declared.UnOp.{UnOp}
 use Rattle.svr_tree.specs.ExprTree.{ExprTree}
 use Rattle.svr_reader.specs.Program.{Parser}
 use Rattle.svr_reader.specs.Lists.{Tall}

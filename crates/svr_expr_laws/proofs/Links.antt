@@ -6,10 +6,10 @@ use Rattle.svr_token.specs.declared.Lexeme.TheVariants as lexeme
 use Rattle.svr_token.specs.declared.Word.TheVariants as w
 use Rattle.svr_token.specs.declared.Mark.{Mark}
 use Rattle.svr_token.specs.declared.Mark.TheVariants as m
-use Rattle.svr_typed.specs.declared.UnOp.{UnOp}
-use Rattle.svr_typed.specs.declared.UnOp.TheVariants as u
-use Rattle.svr_typed.specs.declared.BinOp.{BinOp}
-use Rattle.svr_typed.specs.declared.BinOp.TheVariants as b
+use Rattle.svr_operator.specs.declared.UnOp.{UnOp}
+use Rattle.svr_operator.specs.declared.UnOp.TheVariants as u
+use Rattle.svr_operator.specs.declared.BinOp.{BinOp}
+use Rattle.svr_operator.specs.declared.BinOp.TheVariants as b
 use Rattle.svr_tree.specs.Operators.{unary_mark, binary_mark, precedence, least_left, least_right}
 use Rattle.svr_reader.specs.declared.fixed.Fixed.TheVariants as f
 use Rattle.svr_reader.specs.Steps.{same_mark, is_fixed}

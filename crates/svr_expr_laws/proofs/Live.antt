@@ -8,8 +8,8 @@ use Rattle.svr_token.specs.declared.Mark.TheVariants as m
 use Rattle.svr_token.specs.declared.NameKind.{NameKind}
 use Rattle.svr_token.specs.declared.NameKind.TheVariants as name_kind
 use Rattle.svr_token.specs.declared.SystemName.{SystemName}
-use Rattle.svr_typed.specs.declared.UnOp.{UnOp}
-use Rattle.svr_typed.specs.declared.BinOp.{BinOp}
+use Rattle.svr_operator.specs.declared.UnOp.{UnOp}
+use Rattle.svr_operator.specs.declared.BinOp.{BinOp}
 use Rattle.svr_tree.specs.Tokens.{Tok}
 use Rattle.svr_tree.specs.Operators.{precedence, least_right}
 use Rattle.svr_tree.specs.ExprTree.{ExprTree, bit_select, part_select, join, exprs_of}

@@ -4,7 +4,7 @@ use Rattle.svr_token.specs.declared.Lexeme.TheVariants as lexeme
 use Rattle.svr_token.specs.declared.Word.TheVariants as w
 use Rattle.svr_token.specs.declared.Mark.TheVariants as m
 use Rattle.svr_token.specs.declared.NameKind.{NameKind}
-use Rattle.svr_typed.specs.declared.BinOp.{BinOp}
+use Rattle.svr_operator.specs.declared.BinOp.{BinOp}
 use Rattle.svr_tree.specs.Tokens.{Tok, FitEach, mark, word}
 use Rattle.svr_tree.specs.Operators.{binary_mark, precedence, least_right}
 use Rattle.svr_tree.specs.ExprTree.{ExprTree, exprs_of, ranges_of}

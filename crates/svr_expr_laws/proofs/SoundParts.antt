@@ -7,7 +7,7 @@ use Rattle.svr_token.specs.declared.Mark.{Mark}
 use Rattle.svr_token.specs.declared.Mark.TheVariants as m
 use Rattle.svr_token.specs.declared.SystemName.{SystemName}
 use Rattle.svr_token.specs.declared.SystemName.TheVariants as system
-use Rattle.svr_typed.specs.declared.UnOp.{UnOp}
+use Rattle.svr_operator.specs.declared.UnOp.{UnOp}
 use Rattle.svr_tree.specs.Tokens.{Tok, FitEach, mark, listed, Each, OneOrMore}
 use Rattle.svr_tree.specs.DeclGrammar.{greatest}
 use Rattle.svr_tree.specs.Operators.{unary_mark}

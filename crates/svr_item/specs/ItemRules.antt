@@ -4,8 +4,8 @@ use Rattle.svr_token.specs.declared.Lexeme.{Lexeme}
 use Rattle.svr_token.specs.declared.Lexeme.TheVariants as lexeme
 use Rattle.svr_token.specs.declared.Word.TheVariants as w
 use Rattle.svr_token.specs.declared.Mark.TheVariants as m
-use Rattle.svr_typed.specs.declared.Share.{Share}
-use Rattle.svr_typed.specs.declared.Share.TheVariants as share
+use Rattle.svr_operator.specs.declared.Share.{Share}
+use Rattle.svr_operator.specs.declared.Share.TheVariants as share
 use Rattle.svr_tree.specs.ExprTree.{ExprTree, RangeTree, exprs_of}
 use Rattle.svr_tree.specs.ItemTree.{DistItemTree, DistTree, ItemTree, plain, unique, implies, branch, foreach, disable, solve, no_items, more_items, SetTree, set, ElseTree, no_else, else_set, items_of}
 use Rattle.svr_reader.specs.declared.fixed.Fixed.TheVariants as f

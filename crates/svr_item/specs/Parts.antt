@@ -2,7 +2,7 @@
 use Rattle.std.specs.Prelude.{ℕ, ◌≤◌, IfOk, List, Option, option_map, Result}
 use Rattle.std.specs.declared.alloc.Global.{Global}
 use denote.Ref.{MutBor}
-use Rattle.svr_typed.specs.declared.Share.{Share}
+use Rattle.svr_operator.specs.declared.Share.{Share}
 use Rattle.svr_tree.specs.declared.expr.Expr.{Expr}
 use Rattle.svr_tree.specs.declared.item.Dist.{Dist}
 use Rattle.svr_tree.specs.declared.item.Item.{Item}

@@ -12,8 +12,9 @@ use crate::parts::Parts;
 use sqlite_items::Items;
 use std::alloc::Global;
 use svr_expr::{expr, range};
+use svr_operator::Share;
 use svr_reader::{Cursor, Fixed, ReadFault, listing};
-use svr_tree::{Dist, DistItem, Expr, Item, Lexeme, Mark, Share, Word};
+use svr_tree::{Dist, DistItem, Expr, Item, Lexeme, Mark, Word};
 
 impl<F: Fn(Global, &mut Cursor<'_>, usize) -> Result<(Item, usize), ReadFault>> Parts<F> {
     /// A weight behind `:=` or `:/`.

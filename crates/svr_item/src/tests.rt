@@ -3,8 +3,9 @@
 use crate::{block_item, block_items, item, set_items};
 use std::alloc::Global;
 use std::test::Fail;
+use svr_operator::{BinOp, Share};
 use svr_reader::{Cursor, ReadFault};
-use svr_tree::{BinOp, Dist, DistItem, Expr, Item, Lexeme, Mark, NameKind, Set, Share, Word};
+use svr_tree::{Dist, DistItem, Expr, Item, Lexeme, Mark, NameKind, Set, Word};
 
 const N: Lexeme = Lexeme::Name(NameKind::Plain);
 

@@ -4,7 +4,7 @@ use Rattle.svr_token.specs.declared.Lexeme.{Lexeme}
 use Rattle.svr_token.specs.declared.Lexeme.TheVariants as lexeme
 use Rattle.svr_token.specs.declared.Word.TheVariants as w
 use Rattle.svr_token.specs.declared.Mark.TheVariants as m
-use Rattle.svr_typed.specs.declared.BinOp.TheVariants as b
+use Rattle.svr_operator.specs.declared.BinOp.TheVariants as b
 use Rattle.svr_tree.specs.Tokens.{Tok, Entry, On, Name, FitEach, mark, word}
 use Rattle.svr_tree.specs.DeclGrammar.{greatest}
 use Rattle.svr_tree.specs.ExprTree.{ExprTree, binary, ExprTrees, exprs_of}

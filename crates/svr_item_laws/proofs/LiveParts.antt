@@ -5,8 +5,8 @@ use Rattle.svr_token.specs.declared.Lexeme.TheVariants as lexeme
 use Rattle.svr_token.specs.declared.Word.TheVariants as w
 use Rattle.svr_token.specs.declared.Mark.{Mark}
 use Rattle.svr_token.specs.declared.Mark.TheVariants as m
-use Rattle.svr_typed.specs.declared.Share.{Share}
-use Rattle.svr_typed.specs.declared.Share.TheVariants as share
+use Rattle.svr_operator.specs.declared.Share.{Share}
+use Rattle.svr_operator.specs.declared.Share.TheVariants as share
 use Rattle.svr_tree.specs.ExprTree.{ExprTree}
 use Rattle.svr_reader.specs.declared.fixed.Fixed.{Fixed}
 use Rattle.svr_reader.specs.declared.fixed.Fixed.TheVariants as f

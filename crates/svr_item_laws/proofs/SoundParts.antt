@@ -5,9 +5,9 @@ use Rattle.svr_token.specs.declared.Lexeme.TheVariants as lexeme
 use Rattle.svr_token.specs.declared.Word.TheVariants as w
 use Rattle.svr_token.specs.declared.Mark.{Mark}
 use Rattle.svr_token.specs.declared.Mark.TheVariants as m
-use Rattle.svr_typed.specs.declared.Share.{Share}
-use Rattle.svr_typed.specs.declared.Share.TheVariants as share
-use Rattle.svr_typed.specs.declared.BinOp.TheVariants as b
+use Rattle.svr_operator.specs.declared.Share.{Share}
+use Rattle.svr_operator.specs.declared.Share.TheVariants as share
+use Rattle.svr_operator.specs.declared.BinOp.TheVariants as b
 use Rattle.svr_tree.specs.Tokens.{Tok, On, FitEach, mark, listed}
 use Rattle.svr_tree.specs.Operators.{precedence, least_right}
 use Rattle.svr_tree.specs.ExprTree.{ExprTree, binary}

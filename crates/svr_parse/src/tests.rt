@@ -4,9 +4,10 @@ use sqlite_items::Items;
 use std::alloc::Global;
 use std::test::Fail;
 use svr_lex::lex;
+use svr_operator::BinOp;
 use svr_tree::{
-    BinOp, CallForm, ClassItem, DataType, Dimension, Expr, Item, ModeKind, PropertyDecl,
-    RandomizeArgs, RightSide, Script, Stmt, Token, Top, UnitKind, VarInit,
+    CallForm, ClassItem, DataType, Dimension, Expr, Item, ModeKind, PropertyDecl, RandomizeArgs,
+    RightSide, Script, Stmt, Token, Top, UnitKind, VarInit,
 };
 
 // The script of a text, or its fault.

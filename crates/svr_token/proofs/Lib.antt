@@ -4,3 +4,4 @@ pub mod Fronts
 pub mod Numbers
 pub mod Fixed
 pub mod Exact
+pub mod Cuts

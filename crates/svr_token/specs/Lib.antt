@@ -6,3 +6,4 @@ pub mod Faults
 pub mod Tokens
 pub mod Literals
 pub mod Tables
+pub mod Names

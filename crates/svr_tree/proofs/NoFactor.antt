@@ -5,8 +5,8 @@ use Rattle.svr_token.specs.declared.Word.TheVariants as w
 use Rattle.svr_token.specs.declared.Mark.{Mark}
 use Rattle.svr_token.specs.declared.Mark.TheVariants as m
 use Rattle.svr_token.specs.declared.NameKind.TheVariants as name_kind
-use Rattle.svr_typed.specs.declared.BinOp.{BinOp}
-use Rattle.svr_typed.specs.declared.BinOp.TheVariants as b
+use Rattle.svr_operator.specs.declared.BinOp.{BinOp}
+use Rattle.svr_operator.specs.declared.BinOp.TheVariants as b
 use Rattle.svr_tree.specs.declared.expr.Scope.{Scope}
 use Rattle.svr_tree.specs.declared.expr.Scope.TheVariants as scope
 use Rattle.svr_tree.specs.ExprTree.{ExprTree, number, path, bit_select, part_select, unary, binary, choice, inside, join, copies, sign, paren}

@@ -3,8 +3,8 @@ use Rattle.std.specs.Prelude.{ℕ, max, List, [], ◌∷◌, ◌++◌, Option, S
 use Rattle.svr_token.specs.declared.Word.{Word}
 use Rattle.svr_token.specs.declared.Word.TheVariants as w
 use Rattle.svr_token.specs.declared.Mark.TheVariants as m
-use Rattle.svr_typed.specs.declared.Rand.{Rand}
-use Rattle.svr_typed.specs.declared.Rand.TheVariants as rand
+use Rattle.svr_operator.specs.declared.Rand.{Rand}
+use Rattle.svr_operator.specs.declared.Rand.TheVariants as rand
 use Rattle.svr_tree.specs.declared.decl.VectorKind.{VectorKind}
 use Rattle.svr_tree.specs.declared.decl.VectorKind.TheVariants as vector_kind
 use Rattle.svr_tree.specs.declared.decl.AtomKind.{AtomKind}

@@ -1,6 +1,6 @@
 -- Types, classes and variables as plain data, and those that the code's stand for (IEEE 1800-2017, A.1.9, A.1.10 and A.2).
 use Rattle.std.specs.Prelude.{ℕ, Bool, List, Option, map, option_map}
-use Rattle.svr_typed.specs.declared.Rand.{Rand}
+use Rattle.svr_operator.specs.declared.Rand.{Rand}
 use Rattle.svr_tree.specs.declared.decl.VectorKind.{VectorKind}
 use Rattle.svr_tree.specs.declared.decl.AtomKind.{AtomKind}
 use Rattle.svr_tree.specs.declared.decl.Signing.{Signing}

@@ -7,7 +7,7 @@ use Rattle.svr_token.specs.declared.Word.TheVariants as w
 use Rattle.svr_token.specs.declared.Mark.{Mark}
 use Rattle.svr_token.specs.declared.Mark.TheVariants as m
 use Rattle.svr_token.specs.declared.NameKind.TheVariants as name_kind
-use Rattle.svr_typed.specs.declared.BinOp.TheVariants as b
+use Rattle.svr_operator.specs.declared.BinOp.TheVariants as b
 use Rattle.svr_tree.specs.declared.expr.Scope.TheVariants as scope
 use Rattle.svr_tree.specs.declared.script.UnitKind.TheVariants as unit_kind
 use Rattle.svr_tree.specs.declared.stmt.RandomizeArgs.TheVariants as args

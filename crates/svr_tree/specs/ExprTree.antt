@@ -1,7 +1,7 @@
 -- Expressions as plain data, and the one that an `Expr` stands for (IEEE 1800-2017, A.8).
 use Rattle.std.specs.Prelude.{ℕ, Bool, List, [], ◌∷◌, Option, Some, None, map}
-use Rattle.svr_typed.specs.declared.UnOp.{UnOp}
-use Rattle.svr_typed.specs.declared.BinOp.{BinOp}
+use Rattle.svr_operator.specs.declared.UnOp.{UnOp}
+use Rattle.svr_operator.specs.declared.BinOp.{BinOp}
 use Rattle.svr_tree.specs.declared.expr.Scope.{Scope}
 use Rattle.svr_tree.specs.declared.expr.Expr.{Expr}
 use Rattle.svr_tree.specs.declared.expr.Range.{Range}

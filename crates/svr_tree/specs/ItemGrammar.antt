@@ -2,9 +2,9 @@
 use Rattle.std.specs.Prelude.{◌≡◌, ℕ, ◌+◌, ◌≤◌, max, Bool, true, false, List, [], ◌∷◌, ◌++◌, Option, Some, None}
 use Rattle.svr_token.specs.declared.Word.TheVariants as w
 use Rattle.svr_token.specs.declared.Mark.TheVariants as m
-use Rattle.svr_typed.specs.declared.Share.{Share}
-use Rattle.svr_typed.specs.declared.Share.TheVariants as share
-use Rattle.svr_typed.specs.declared.BinOp.TheVariants as b
+use Rattle.svr_operator.specs.declared.Share.{Share}
+use Rattle.svr_operator.specs.declared.Share.TheVariants as share
+use Rattle.svr_operator.specs.declared.BinOp.TheVariants as b
 use Rattle.svr_tree.specs.ExprTree.{ExprTree, binary, ExprTrees, no_exprs, more_exprs}
 use Rattle.svr_tree.specs.ItemTree.{DistItemTree, DistTree, ItemTree, plain, unique, implies, branch, foreach, disable, solve, ItemTrees, no_items, more_items, SetTree, set, ElseTree, no_else, else_set}
 use Rattle.svr_tree.specs.Tokens.{Entry, Name, word, word_on, mark, listed, OneOrMore}

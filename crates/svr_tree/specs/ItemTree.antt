@@ -1,6 +1,6 @@
 -- Constraint items as plain data, and the one that an `Item` stands for (IEEE 1800-2017, A.1.10).
 use Rattle.std.specs.Prelude.{ℕ, Bool, List, [], ◌∷◌, Option, Some, None, map, option_map}
-use Rattle.svr_typed.specs.declared.Share.{Share}
+use Rattle.svr_operator.specs.declared.Share.{Share}
 use Rattle.svr_tree.specs.declared.expr.Expr.{Expr}
 use Rattle.svr_tree.specs.declared.item.DistItem.{DistItem}
 use Rattle.svr_tree.specs.declared.item.Dist.{Dist}

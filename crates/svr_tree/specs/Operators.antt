@@ -2,10 +2,10 @@
 use Rattle.std.specs.Prelude.{ℕ, ◌+◌, if◌then◌else◌, nat_le}
 use Rattle.svr_token.specs.declared.Mark.{Mark}
 use Rattle.svr_token.specs.declared.Mark.TheVariants as m
-use Rattle.svr_typed.specs.declared.UnOp.{UnOp}
-use Rattle.svr_typed.specs.declared.UnOp.TheVariants as u
-use Rattle.svr_typed.specs.declared.BinOp.{BinOp}
-use Rattle.svr_typed.specs.declared.BinOp.TheVariants as b
+use Rattle.svr_operator.specs.declared.UnOp.{UnOp}
+use Rattle.svr_operator.specs.declared.UnOp.TheVariants as u
+use Rattle.svr_operator.specs.declared.BinOp.{BinOp}
+use Rattle.svr_operator.specs.declared.BinOp.TheVariants as b
 
 abbrev pub unary_mark : UnOp → Mark
 unary_mark u.Plus = m.Plus

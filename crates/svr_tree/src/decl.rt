@@ -3,7 +3,7 @@
 use crate::expr::Expr;
 use crate::item::Item;
 use sqlite_items::Items;
-use svr_typed::Rand;
+use svr_operator::Rand;
 
 /// IEEE 1800-2017, A.2.2.1: `integer_vector_type`
 #[derive(Clone, Copy, Debug, PartialEq, Eq)]

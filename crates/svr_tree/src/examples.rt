@@ -1,7 +1,7 @@
 // What the grammar says of short texts: each function has an empty body, and its contract is the statement.
 
 ghost use Rattle.std.specs.Prelude.{◌≡◌, ℕ, ◌+◌, ◌<◌, ◌≤◌, []};
-ghost use Rattle.svr_typed.specs.declared.BinOp.{BinOp};
+ghost use Rattle.svr_operator.specs.declared.BinOp.{BinOp};
 ghost use Rattle.svr_token.specs.declared.Lexeme.{Lexeme};
 ghost use Rattle.svr_token.specs.declared.Word.TheVariants as w;
 ghost use Rattle.svr_tree.specs.ExprTree.{ExprTree, binary};

@@ -4,9 +4,10 @@ ghost use Rattle.std.specs.Prelude.{◌≡◌, IfOk};
 ghost use Rattle.svr_tree.specs.ExprTree as tree;
 ghost use Rattle.svr_tree.specs.ExprTree.{expr_tree, range_tree, bound_tree, expr_trees, range_trees};
 
+use crate::memory::NoMemory;
 use sqlite_items::{Boxed, Items};
 use std::alloc::Global;
-use svr_typed::{BinOp, NoMemory, UnOp};
+use svr_operator::{BinOp, UnOp};
 
 /// Where a path looks for its first name: by the common rules, or behind `local::` or `this.` (IEEE 1800-2017, 18.7.1 and 8.11).
 #[derive(Clone, Copy, Debug, PartialEq, Eq)]

@@ -7,7 +7,7 @@ ghost use Rattle.svr_tree.specs.ItemTree.{item_tree, set_tree, item_trees, dist_
 
 use crate::expr::{Expr, Range};
 use sqlite_items::Items;
-use svr_typed::Share;
+use svr_operator::Share;
 
 /// A member of a `dist` set, with `:=` or `:/` and a weight where one is written.
 #[derive(Drop)]

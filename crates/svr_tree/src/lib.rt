@@ -7,6 +7,7 @@ mod decl;
 pub mod examples;
 mod expr;
 mod item;
+mod memory;
 mod script;
 mod stmt;
 #[cfg(test)]
@@ -19,11 +20,7 @@ pub use decl::{
 };
 pub use expr::{Bound, Expr, Range, Scope};
 pub use item::{Dist, DistItem, Item, Set};
+pub use memory::NoMemory;
 pub use script::{Script, Top, UnitDecl, UnitKind};
 pub use stmt::{CallForm, ModeCall, ModeKind, RandomizeArgs, RandomizeCall, RightSide, Stmt};
 pub use svr_token::{Kind, Lexeme, Mark, NameKind, SystemName, Token, Word};
-pub use svr_typed::{
-    ArrayKind, BinOp, CallList, CallStmt, Design, EnumMember, EnumType, FlatClass, NoMemory,
-    NumType, Prop, Rand, Share, TBlock, TBound, TClass, TDistItem, TExpr, TItem, TNode, TRange,
-    TStmt, TVar, Text, UnOp, VarKind,
-};

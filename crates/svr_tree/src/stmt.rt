@@ -7,9 +7,9 @@ ghost use Rattle.svr_tree.specs.StmtTree.{stmt_tree, stmt_trees, right_tree, ran
 
 use crate::expr::Expr;
 use crate::item::Item;
+use crate::memory::NoMemory;
 use sqlite_items::{Boxed, Items};
 use std::alloc::Global;
-use svr_typed::NoMemory;
 
 /// What the parentheses of a call hold (IEEE 1800-2017, 18.6 and 18.11).
 #[derive(Debug, Drop)]

@@ -1,8 +1,9 @@
 // With ample memory each tree is made.
 
-use crate::{BinOp, Expr, NoMemory, Range, Stmt, UnOp};
+use crate::{Expr, NoMemory, Range, Stmt};
 use sqlite_items::Items;
 use std::process::Abort;
+use svr_operator::{BinOp, UnOp};
 
 fn number(at: u32) -> Expr {
     Expr::number(at, 1, 32, true)

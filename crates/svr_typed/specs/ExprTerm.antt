@@ -1,8 +1,8 @@
 -- Typed expressions as plain data, and the one that a `TExpr` stands for (IEEE 1800-2017, clause 11).
 use Rattle.std.specs.Prelude.{ℕ, ℤ, Bool, List, [], ◌∷◌, Option, Some, None, map}
-use Rattle.svr_typed.specs.declared.operator.UnOp.{UnOp}
-use Rattle.svr_typed.specs.declared.operator.BinOp.{BinOp}
-use Rattle.svr_typed.specs.declared.operator.Fold.{Fold}
+use Rattle.svr_operator.specs.declared.UnOp.{UnOp}
+use Rattle.svr_operator.specs.declared.BinOp.{BinOp}
+use Rattle.svr_operator.specs.declared.Fold.{Fold}
 use Rattle.svr_typed.specs.declared.expr.TExpr.{TExpr}
 use Rattle.svr_typed.specs.declared.expr.TNode.{TNode}
 use Rattle.svr_typed.specs.declared.expr.TRange.{TRange}

@@ -1,6 +1,6 @@
 -- Typed constraint items as plain data, and the one that a `TItem` stands for (IEEE 1800-2017, 18.5).
 use Rattle.std.specs.Prelude.{ℕ, Bool, List, [], ◌∷◌, Option, Some, None, map, option_map}
-use Rattle.svr_typed.specs.declared.item.Share.{Share}
+use Rattle.svr_operator.specs.declared.Share.{Share}
 use Rattle.svr_typed.specs.declared.item.TDistItem.{TDistItem}
 use Rattle.svr_typed.specs.declared.item.TItem.{TItem, fold-TItem}
 use Rattle.svr_typed.specs.declared.item.TItem.TheOpen.{TItem-F}

@@ -7,6 +7,7 @@ ghost use Rattle.svr_typed.specs.ClassTerm.{block_term, block_terms, flat_term, 
 use crate::item::TItem;
 use crate::text::Text;
 use sqlite_items::Items;
+use svr_operator::Rand;
 
 /// An integral type (IEEE 1800-2017, 6.11): its width in bits, from 1 to 64, and its sign. `members` is the number of the enum whose members its values are.
 #[derive(Clone, Copy, Debug, PartialEq, Eq)]
@@ -14,14 +15,6 @@ pub struct NumType {
     pub width: u8,
     pub signed: bool,
     pub members: Option<u32>,
-}
-
-/// How a property is declared (IEEE 1800-2017, 18.4): as a state variable, a random one, or a cyclic random one.
-#[derive(Clone, Copy, Debug, PartialEq, Eq)]
-pub enum Rand {
-    State,
-    Rand,
-    Randc,
 }
 
 /// Whether a property is an array (IEEE 1800-2017, clause 7). A dynamic one is a dynamic array or a queue.

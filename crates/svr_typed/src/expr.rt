@@ -5,9 +5,9 @@ ghost use Rattle.svr_typed.specs.ExprTerm as term;
 ghost use Rattle.svr_typed.specs.ExprTerm.{expr_term, node_term, range_term, bound_term, expr_terms, range_terms};
 
 use crate::memory::NoMemory;
-use crate::operator::{BinOp, Fold, UnOp};
 use sqlite_items::{Boxed, Items};
 use std::alloc::Global;
+use svr_operator::{BinOp, Fold, UnOp};
 
 /// An expression with its self-determined size and its sign (IEEE 1800-2017, 11.6 and 11.8). `width` is in bits, from 1 to 64.
 #[cycle(expr)]

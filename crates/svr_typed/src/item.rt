@@ -7,15 +7,7 @@ ghost use Rattle.svr_typed.specs.ItemTerm.{item_term, item_terms, dist_term, dis
 
 use crate::expr::{TExpr, TRange};
 use sqlite_items::Items;
-
-/// Which values a weight of `dist` is for (IEEE 1800-2017, 18.5.4).
-#[derive(Clone, Copy, Debug, PartialEq, Eq)]
-pub enum Share {
-    /// `:=`: each value of the range
-    Each,
-    /// `:/`: the range as a whole
-    Whole,
-}
+use svr_operator::Share;
 
 /// A member of a `dist` set. Without a weight it is `:= 1`.
 #[derive(Drop)]

@@ -7,16 +7,14 @@ mod class;
 mod expr;
 mod item;
 mod memory;
-mod operator;
 mod stmt;
 #[cfg(test)]
 mod tests;
 mod text;
 
-pub use class::{ArrayKind, EnumMember, EnumType, FlatClass, NumType, Prop, Rand, TBlock, TClass};
+pub use class::{ArrayKind, EnumMember, EnumType, FlatClass, NumType, Prop, TBlock, TClass};
 pub use expr::{TBound, TExpr, TNode, TRange};
-pub use item::{Share, TDistItem, TItem};
+pub use item::{TDistItem, TItem};
 pub use memory::NoMemory;
-pub use operator::{BinOp, Fold, UnOp};
 pub use stmt::{CallList, CallStmt, Design, TStmt, TVar, VarKind};
 pub use text::Text;

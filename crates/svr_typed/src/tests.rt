@@ -1,9 +1,10 @@
 // With ample memory each tree is made.
 
-use crate::{BinOp, NoMemory, TExpr, TNode, TRange, TStmt, Text, UnOp};
+use crate::{NoMemory, TExpr, TNode, TRange, TStmt, Text};
 use sqlite_items::Items;
 use std::process::Abort;
 use std::test::Fail;
+use svr_operator::{BinOp, UnOp};
 
 fn number(value: u64) -> TExpr {
     TExpr::new(32, true, TNode::number(value, false))

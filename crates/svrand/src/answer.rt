@@ -10,9 +10,10 @@ use crate::line::{line_of_one, line_of_zero};
 use crate::refusal::{lexical, syntactic};
 use crate::status::Status;
 use std::alloc::{AllocError, Global};
-use svr_bits::{Names, bit_class};
+use svr_bits::bit_class;
 use svr_lex::lex;
 use svr_parse::parse;
+use svr_token::Names;
 use svr_tree::Script;
 use svr_trial::solve;
 

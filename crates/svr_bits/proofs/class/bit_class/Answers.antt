@@ -1,5 +1,6 @@
 use Rattle.std.proofs.Common.{option_map}
-use Rattle.svr_bits.specs.Names.{names_of, referred}
+use Rattle.svr_token.specs.Names.{names_of}
+use Rattle.svr_bits.specs.Names.{referred}
 use Rattle.svr_bits.specs.Form.{parts_term, with_object}
 use Rattle.svr_bits.proofs.Whole.{told_each, object_ready}
 use Rattle.svr_bits.proofs.class.bit_class.Goals as goal

@@ -1,6 +1,6 @@
 use Rattle.std.proofs.Common.{map}
 use Rattle.svr_tree.specs.DeclTree.{class_item_tree}
-use Rattle.svr_bits.specs.Names.{names_of}
+use Rattle.svr_token.specs.Names.{names_of}
 use Rattle.svr_bits.specs.Declarations.{parts}
 use Rattle.svr_bits.proofs.Good.{parts_good}
 use Rattle.svr_bits.proofs.Whole.{told}

@@ -1,5 +1,5 @@
 use Rattle.std.proofs.Common.{refl, sym, ◌∙◌, subst, IfSome, option_map}
-use Rattle.svr_bits.specs.Names.{names_of}
+use Rattle.svr_token.specs.Names.{names_of}
 use Rattle.svr_bits.specs.Form.{parts_term}
 use Rattle.svr_bits.specs.Ready.{AreGood}
 use Rattle.svr_bits.proofs.Whole.{lawful_few}

@@ -1,6 +1,7 @@
 use Rattle.std.proofs.Common.{◌≡◌, length, map}
 use Rattle.svr_tree.specs.DeclTree.{class_item_tree}
-use Rattle.svr_bits.specs.Names.{names_of, seen}
+use Rattle.svr_token.specs.Names.{names_of}
+use Rattle.svr_bits.specs.Names.{seen}
 use Rattle.svr_bits.specs.Declarations.{parts}
 use Rattle.svr_bits.proofs.Fronts.{behind}
 use Rattle.svr_bits.proofs.declaration.parts.Given as goal

@@ -1,6 +1,7 @@
 use Rattle.std.proofs.Common.{◌≡◌, drop}
 use Rattle.svr_tree.specs.ItemTree.{item_trees}
-use Rattle.svr_bits.specs.Names.{names_of, seen}
+use Rattle.svr_token.specs.Names.{names_of}
+use Rattle.svr_bits.specs.Names.{seen}
 use Rattle.svr_bits.specs.Items.{item_list}
 use Rattle.svr_bits.specs.Expressions.{items_typed}
 use Rattle.svr_bits.proofs.Fronts.{items_behind}

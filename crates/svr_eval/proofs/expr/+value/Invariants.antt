@@ -1,10 +1,11 @@
-use Rattle.std.proofs.Common.{◌≡◌, ◌<◌, ◌+◌, ◌*◌, max, length, drop}
+use Rattle.std.proofs.Common.{◌≡◌, ◌<◌, ◌+◌, ◌*◌, max, [], ◌∷◌, ◌++◌, length, drop}
 use Rattle.svr_typed.specs.declared.expr.TExpr.{size-TExpr}
 use Rattle.svr_typed.specs.declared.expr.TRange.{size-TRange}
 use Rattle.svr_typed.specs.declared.expr.TBound.{size-TBound}
 use Rattle.svr_typed.specs.ExprTerm.{RangeTerms, expr_term, expr_terms, range_terms}
 use Rattle.svr_eval.specs.Reading.{reading_of}
 use Rattle.svr_eval.specs.Typed.{RangesAreTyped, RangesCanRead}
+use Rattle.svr_eval.specs.Operator.{fold_of}
 use Rattle.svr_eval.specs.Value as spec
 use Rattle.svr_eval.proofs.expr.+value.Given as goal
 
@@ -16,6 +17,18 @@ decreases-value l = 8 * size-TExpr l.e.now + 2
 
 abbrev pub decreases-selected : goal.decreases-selected
 decreases-selected l = 8 * max (size-TExpr l.base.now) (size-TExpr l.last.now) + 3
+
+abbrev pub decreases-cell : goal.decreases-cell
+decreases-cell l = 8 * max (size-TExpr l.first.now) (size-TExpr l.second.now) + 3
+
+abbrev pub decreases-reduced : goal.decreases-reduced
+decreases-reduced l = 8 * size-TExpr l.body.now + 3
+
+abbrev pub invariant-reduced-loop-i : goal.invariant-reduced-loop-i
+invariant-reduced-loop-i l = record {
+  value : l.total.value ≡ fold_of l.fn.op (spec.size_of (expr_term l.body)) l.i (λ i. spec.alone (reading_of l.a) (l.env ++ i ∷ []) (expr_term l.body));
+  width : l.total.width ≡ spec.size_of (expr_term l.body);
+}
 
 abbrev pub decreases-replicated : goal.decreases-replicated
 decreases-replicated l = 8 * max (goal.size-replicated l) (size-TExpr l.count.now) + 8

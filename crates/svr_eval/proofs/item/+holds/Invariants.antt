@@ -14,4 +14,8 @@ invariant-all_hold-loop-item l =
     }
 
 abbrev pub invariant-holds-loop-i : goal.invariant-holds-loop-i
-invariant-holds-loop-i l = spec.all_below l.i (λ i. spec.all_hold (reading_of l.a) (l.env ++ i ∷ []) (item_terms l.body)) ≡ true
+invariant-holds-loop-i l =
+    spec.all_below l.i (λ i. spec.each_in_row l.inner l.names (λ indexes. spec.all_hold (reading_of l.a) indexes (item_terms l.body)) (l.env ++ i ∷ [])) ≡ true
+
+abbrev pub invariant-row_holds-loop-j : goal.invariant-row_holds-loop-j
+invariant-row_holds-loop-j l = spec.all_below l.j (λ j. spec.all_hold (reading_of l.a) (l.env ++ j ∷ []) (item_terms l.body)) ≡ true

@@ -1,7 +1,7 @@
 use Rattle.std.proofs.Common.{◌≡◌, Some, None, sym, ◌∙◌, ap, refl, inr, List, ℕ}
 use Rattle.svr_typed.specs.ItemTerm.{item_terms}
 use Rattle.svr_tree.specs.ScriptTree.{script_tree}
-use Rattle.svr_bits.specs.Names.{names_of}
+use Rattle.svr_token.specs.Names.{names_of}
 use Rattle.svr_bits.specs.Form.{bit_term, class_of}
 use Rattle.svrand.specs.Draw.{generator, preferred}
 use Rattle.svrand.specs.Answer.{HasClass, line_of_one, by_form}

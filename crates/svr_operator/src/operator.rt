@@ -83,13 +83,3 @@ pub enum BinOp {
     /// `<->`
     Equivalent,
 }
-
-/// An array reduction method (IEEE 1800-2017, 7.12.3).
-#[derive(Clone, Copy, Debug, PartialEq, Eq)]
-pub enum Fold {
-    Sum,
-    Product,
-    And,
-    Or,
-    Xor,
-}
