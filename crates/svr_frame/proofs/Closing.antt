@@ -6,7 +6,7 @@ use Rattle.std.proofs.lemmas.List.{length-append, get_or-append-add, get_or_appe
 use Rattle.svr_typed.specs.ExprTerm.{ExprTerm, typed, NodeTerm, number, prop, element, cell, size, script, loop_index, reduce, of_object, bit_select, part_select, unary, binary, choice, inside, join, copies, sign, ExprTerms, no_exprs, more_exprs, RangeTerm, one, span, RangeTerms, no_ranges, more_ranges, BoundTerm, value, dollar}
 use Rattle.svr_eval.specs.Reading.{Reading}
 use Rattle.svr_num.specs.Num.{extend_of}
-use Rattle.svr_typed.specs.declared.operator.Fold.{Fold}
+use Rattle.svr_operator.specs.declared.Fold.{Fold}
 use Rattle.svr_eval.specs.Operator.{unary_kind, binary_kind, fold_of}
 use Rattle.svr_eval.specs.Value.{Operand, size_of, node_size, sizes, sign_of, node_sign, val, node_val, joined, fits_some, fits, is_from, is_up_to, is_below, equals_member, index_of, property_of, node_property, operand_of, truth, alone}
 use Rattle.svr_frame.specs.Closed.{index_number, closed_within, closed_node, closed_exprs, closed_ranges, closed_range, closed_bound, closed}

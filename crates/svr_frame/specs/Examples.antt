@@ -1,14 +1,14 @@
 -- Calls that were worked out by hand: their occurrences, what is live, what is asked in which phase, and weights.
 use Rattle.std.specs.Prelude.{◌==◌, ℕ, zero, suc, ℤ, pos, Bool, true, false, ◌&&◌, List, [], ◌∷◌, ◌++◌, None, Some, map, length, slice_index, slice_index_or}
 use Rattle.std.specs.List.{list_all}
-use Rattle.svr_typed.specs.declared.class.Rand.{Rand}
-use Rattle.svr_typed.specs.declared.class.Rand.TheVariants as rand
+use Rattle.svr_operator.specs.declared.Rand.{Rand}
+use Rattle.svr_operator.specs.declared.Rand.TheVariants as rand
 use Rattle.svr_typed.specs.declared.class.ArrayKind.{ArrayKind}
 use Rattle.svr_typed.specs.declared.class.ArrayKind.TheVariants as array
 use Rattle.svr_typed.specs.declared.class.Prop.{Prop}
 use Rattle.svr_typed.specs.declared.class.EnumType.{EnumType}
 use Rattle.svr_typed.specs.declared.stmt.CallList.TheVariants as list
-use Rattle.svr_typed.specs.declared.operator.BinOp.TheVariants as bin
+use Rattle.svr_operator.specs.declared.BinOp.TheVariants as bin
 use Rattle.svr_typed.specs.ExprTerm.{ExprTerm, typed, number, prop, element, size, loop_index, bit_select, exprs_of, RangeTerm, one, span, value}
 use Rattle.svr_typed.specs.ItemTerm.{ItemTerm, plain, unique, implies, branch, foreach, disable, ItemTerms, items_of, no_else}
 use Rattle.svr_typed.specs.ClassTerm.{BlockTerm}

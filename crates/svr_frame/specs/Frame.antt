@@ -1,8 +1,8 @@
 -- The frame of a call as plain data, and what it says of a property (IEEE 1800-2017, 18.4 and 18.6).
 use Rattle.std.specs.Prelude.{◌≡◌, ℕ, ◌^◌, Bool, true, false, not, ◌&&◌, nat_lt, if◌then◌else◌, List, [], ◌∷◌, Option, Some, None, map, length, slice_index, slice_index_or}
 use Rattle.std.specs.List.{range_with_len}
-use Rattle.svr_typed.specs.declared.class.Rand.{Rand}
-use Rattle.svr_typed.specs.declared.class.Rand.TheVariants as rand
+use Rattle.svr_operator.specs.declared.Rand.{Rand}
+use Rattle.svr_operator.specs.declared.Rand.TheVariants as rand
 use Rattle.svr_typed.specs.declared.class.ArrayKind.{ArrayKind}
 use Rattle.svr_typed.specs.declared.class.ArrayKind.TheVariants as array
 use Rattle.svr_typed.specs.declared.class.Prop.{Prop}

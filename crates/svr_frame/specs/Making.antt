@@ -1,8 +1,8 @@
 -- How the frame of a call is made of an object and the call (IEEE 1800-2017, 18.5.2, 18.6 to 18.9, 18.11).
 use Rattle.std.specs.Prelude.{◌==◌, ℕ, Bool, true, false, not, ◌&&◌, ◌||◌, if◌then◌else◌, List, [], ◌∷◌, map, length}
 use Rattle.std.specs.List.{list_any, range_with_len}
-use Rattle.svr_typed.specs.declared.class.Rand.{Rand}
-use Rattle.svr_typed.specs.declared.class.Rand.TheVariants as rand
+use Rattle.svr_operator.specs.declared.Rand.{Rand}
+use Rattle.svr_operator.specs.declared.Rand.TheVariants as rand
 use Rattle.svr_typed.specs.declared.class.Prop.{Prop}
 use Rattle.svr_typed.specs.declared.class.EnumType.{EnumType}
 use Rattle.svr_typed.specs.declared.stmt.CallList.{CallList}

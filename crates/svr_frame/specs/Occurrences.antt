@@ -1,9 +1,9 @@
 -- The occurrences of items: each leaf once for each choice of the indexes of its loops, with the tests around it (IEEE 1800-2017, 18.5).
 use Rattle.std.specs.Prelude.{◌==◌, ℕ, zero, suc, ◌/◌, Bool, true, false, not, ◌&&◌, ◌||◌, if◌then◌else◌, List, [], ◌∷◌, ◌++◌, Option, None, Some, map, filter}
 use Rattle.std.specs.List.{list_all}
-use Rattle.svr_typed.specs.declared.operator.UnOp.TheVariants as un
-use Rattle.svr_typed.specs.declared.operator.BinOp.{BinOp}
-use Rattle.svr_typed.specs.declared.operator.BinOp.TheVariants as bin
+use Rattle.svr_operator.specs.declared.UnOp.TheVariants as un
+use Rattle.svr_operator.specs.declared.BinOp.{BinOp}
+use Rattle.svr_operator.specs.declared.BinOp.TheVariants as bin
 use Rattle.svr_typed.specs.ExprTerm.{ExprTerm, typed, number, element, unary, binary, inside, ExprTerms, no_exprs, more_exprs, RangeTerm, ranges_of}
 use Rattle.svr_typed.specs.ItemTerm.{DistTerm, ItemTerm, plain, unique, implies, branch, foreach, disable, solve, ItemTerms, no_items, more_items, ElseTerm, no_else, else_items}
 use Rattle.svr_eval.specs.Reading.{Reading}

@@ -1,8 +1,8 @@
 -- The unknowns, the hard items and the live soft items of each phase of a call (IEEE 1800-2017, 18.4.2, 18.5.8 and 18.5.14).
 use Rattle.std.specs.Prelude.{◌==◌, ℕ, ◌+◌, ◌*◌, ℤ, pos, negsuc, nat_lt, Bool, true, false, not, ◌&&◌, ◌||◌, if◌then◌else◌, List, [], ◌∷◌, ◌++◌, Option, None, Some, map, filter, slice_index, slice_index_or}
 use Rattle.std.specs.List.{list_any, flat_map, range_with_len}
-use Rattle.svr_typed.specs.declared.operator.BinOp.{BinOp}
-use Rattle.svr_typed.specs.declared.operator.BinOp.TheVariants as bin
+use Rattle.svr_operator.specs.declared.BinOp.{BinOp}
+use Rattle.svr_operator.specs.declared.BinOp.TheVariants as bin
 use Rattle.svr_typed.specs.declared.class.Prop.{Prop}
 use Rattle.svr_typed.specs.ExprTerm.{ExprTerm, typed, NodeTerm, number, prop, element, cell, size, binary, inside, one, ranges_of}
 use Rattle.svr_eval.specs.Reading.{Reading}

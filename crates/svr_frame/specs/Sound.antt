@@ -2,13 +2,13 @@
 use Rattle.std.specs.Prelude.{◌≡◌, ◌==◌, ℕ, zero, suc, ◌+◌, ◌<◌, ◌≤◌, ◌^◌, Bool, true, false, not, ◌&&◌, ◌||◌, List, [], ◌∷◌, Option, None, Some, map, filter, length, slice_index, slice_index_or, ⊤}
 use Rattle.std.specs.List.{list_any, All}
 use Rattle.svr_typed.specs.declared.class.NumType.{NumType}
-use Rattle.svr_typed.specs.declared.class.Rand.{Rand}
+use Rattle.svr_operator.specs.declared.Rand.{Rand}
 use Rattle.svr_typed.specs.declared.class.ArrayKind.{ArrayKind}
 use Rattle.svr_typed.specs.declared.class.ArrayKind.TheVariants as array
 use Rattle.svr_typed.specs.declared.class.Prop.{Prop}
 use Rattle.svr_typed.specs.declared.class.EnumType.{EnumType}
 use Rattle.svr_typed.specs.declared.class.EnumMember.{EnumMember}
-use Rattle.svr_typed.specs.declared.item.Share.{Share}
+use Rattle.svr_operator.specs.declared.Share.{Share}
 use Rattle.svr_typed.specs.ExprTerm.{ExprTerm, typed, NodeTerm, number, prop, element, cell, size, script, loop_index, reduce, of_object, bit_select, part_select, unary, binary, choice, inside, join, copies, sign, ExprTerms, no_exprs, more_exprs, RangeTerm, one, span, RangeTerms, no_ranges, more_ranges, BoundTerm, value, dollar}
 use Rattle.svr_typed.specs.ItemTerm.{DistTerm, ItemTerm, plain, unique, implies, branch, foreach, disable, solve, ItemTerms, no_items, more_items, ElseTerm, no_else, else_items}
 use Rattle.svr_eval.specs.Reading.{Reading, reading_of}

@@ -1,7 +1,7 @@
 -- What the items of a phase weigh: a measure of the clauses that they become. Constants are not folded.
 use Rattle.std.specs.Prelude.{ℕ, ◌+◌, ◌-◌, ◌*◌, ◌^◌, max, min, Bool, true, false, not, ◌&&◌, ◌||◌, if◌then◌else◌, List, [], ◌∷◌, ◌++◌, Option, None, Some, filter}
-use Rattle.svr_typed.specs.declared.operator.Fold.{Fold}
-use Rattle.svr_typed.specs.declared.operator.Fold.TheVariants as fold
+use Rattle.svr_operator.specs.declared.Fold.{Fold}
+use Rattle.svr_operator.specs.declared.Fold.TheVariants as fold
 use Rattle.svr_typed.specs.ExprTerm.{ExprTerm, typed, NodeTerm, number, prop, element, cell, size, script, loop_index, reduce, of_object, bit_select, part_select, unary, binary, choice, inside, join, copies, sign, ExprTerms, no_exprs, more_exprs, RangeTerm, one, span, RangeTerms, no_ranges, more_ranges, BoundTerm, value, dollar}
 use Rattle.svr_typed.specs.ItemTerm.{DistTerm}
 use Rattle.svr_eval.specs.declared.operator.Arithmetic.{Arithmetic}

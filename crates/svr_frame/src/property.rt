@@ -7,7 +7,8 @@ ghost use Rattle.svr_frame.specs.Frame as spec;
 ghost use Rattle.svr_frame.specs.Frame.{frame_term};
 
 use crate::frame::Frame;
-use svr_typed::{ArrayKind, EnumMember, Rand};
+use svr_operator::Rand;
+use svr_typed::{ArrayKind, EnumMember};
 
 impl Frame {
     /// Whether a property is an array. A number that names no property is no scalar.

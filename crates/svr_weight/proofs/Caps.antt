@@ -1,7 +1,7 @@
 -- Sums and products up to the last value of a weight.
 use Rattle.svr_typed.specs.declared.item.TItem.{TItem, Foreach, the_lemmas}
 use Rattle.svr_typed.specs.ItemTerm.{foreach, item_term, item_terms}
-use Rattle.std.proofs.Common.{rules, List, ◌≡◌, ℕ, zero, suc, ◌+◌, ◌-◌, ◌*◌, ◌/◌, ◌^◌, ◌≤◌, ◌<◌, Bool, true, false, Option, None, Some, refl, sym, ap, ◌∙◌, arith, ⊎_elim}
+use Rattle.std.proofs.Common.{rules, List, ◌≡◌, ℕ, zero, suc, ◌+◌, ◌-◌, ◌*◌, ◌/◌, ◌^◌, Bool, true, false, Option, None, Some, refl, sym, ap, ◌∙◌, arith, ⊎_elim}
 use Rattle.std.specs.Prelude.{if◌then◌else◌}
 use Rattle.std.proofs.lemmas.Bool.{cases_lt}
 use Rattle.svr_frame.specs.declared.part.Part.{Part}

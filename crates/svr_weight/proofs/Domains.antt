@@ -1,6 +1,6 @@
 -- The items of the unknowns themselves weigh what the properties weigh one by one.
-use Rattle.std.proofs.Common.{◌≡◌, ℕ, zero, suc, ◌+◌, ◌-◌, ◌*◌, ◌^◌, Bool, true, false, not, ◌&&◌, ◌||◌, refl, sym, ◌∙◌, ap, List, [], ◌∷◌, ◌++◌, map, length, Option, None, Some, arith}
-use Rattle.std.specs.Prelude.{max, filter, if◌then◌else◌, slice_index}
+use Rattle.std.proofs.Common.{◌≡◌, ℕ, zero, suc, ◌+◌, ◌*◌, Bool, true, false, not, ◌&&◌, ◌||◌, refl, ◌∙◌, ap, List, [], ◌∷◌, ◌++◌, map, length, Option, None, Some, arith}
+use Rattle.std.specs.Prelude.{filter, if◌then◌else◌, slice_index}
 use Rattle.std.specs.List.{flat_map, range_with_len}
 use Rattle.std.proofs.lemmas.Grind.{flat_map-append}
 use Rattle.std.proofs.lemmas.List.Concat.{flat_map-cons}
@@ -11,12 +11,12 @@ use Rattle.svr_frame.specs.declared.part.Part.TheVariants.{Randc, Sizes, All}
 use Rattle.svr_frame.specs.declared.slot.Slot.{Slot}
 use Rattle.svr_frame.specs.declared.slot.Slot.TheVariants.{Scalar, Element, Size}
 use Rattle.svr_frame.specs.Frame.{FrameTerm, is_array, is_random, is_cyclic, has_free_size, width_of, is_signed, members_of, props_of}
-use Rattle.svr_frame.specs.Closed.{index_number, closed}
+use Rattle.svr_frame.specs.Closed.{index_number}
 use Rattle.svr_frame.specs.Occurrences.{Occurrence}
-use Rattle.svr_frame.specs.Phases.{shape_at, sought_sizes, number_of, among_members, domain_item, domain_items, not_negative, at_most, size_items, cap_items, cyclic_slots, scalar_slots, size_slots, is_random_array, element_slots, unknowns_of, active_at}
+use Rattle.svr_frame.specs.Phases.{shape_at, sought_sizes, number_of, among_members, domain_item, domain_items, not_negative, at_most, size_items, cyclic_slots, scalar_slots, size_slots, is_random_array, element_slots, active_at}
 use Rattle.svr_frame.specs.Weight as weight
 use Rattle.svr_frame.specs.Weight.{capped, total, occurrence_cost, bounds_of, weight_of, counts}
-use Rattle.svr_weight.specs.Weighing.{domain_weight_from, domain_weight, is_scalar_unknown, number_count, bounds_weight, property_weight, properties_weight, phase_weight, items_weight, everywhere}
+use Rattle.svr_weight.specs.Weighing.{domain_weight_from, domain_weight, is_scalar_unknown, number_count, bounds_weight, properties_weight, phase_weight}
 use Rattle.svr_weight.proofs.Weights.{cost_closed}
 use Rattle.svr_weight.proofs.Weighed.{active_weigh}
 

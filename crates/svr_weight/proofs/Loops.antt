@@ -1,18 +1,17 @@
 -- Whether an occurrence counts in a phase does not depend on the indexes of its loops.
-use Rattle.std.proofs.Common.{◌≡◌, ℕ, zero, suc, ◌+◌, ◌*◌, Bool, true, false, not, ◌&&◌, ◌||◌, refl, sym, ◌∙◌, ap, List, [], ◌∷◌, ◌++◌, map, Option, None, Some, arith}
-use Rattle.std.specs.Prelude.{filter}
+use Rattle.std.proofs.Common.{◌≡◌, ℕ, Bool, not, ◌&&◌, ◌||◌, refl, sym, ◌∙◌, ap, List, [], ◌∷◌, ◌++◌, map, Option, None, Some}
 use Rattle.std.specs.List.{list_any}
 use Rattle.std.proofs.lemmas.List.Folds.{list_any-append}
-use Rattle.svr_typed.specs.declared.item.Share.{Share}
+use Rattle.svr_operator.specs.declared.Share.{Share}
 use Rattle.svr_typed.specs.ExprTerm.{ExprTerm, RangeTerm}
 use Rattle.svr_typed.specs.ItemTerm.{DistTerm}
 use Rattle.svr_frame.specs.declared.part.Part.{Part}
 use Rattle.svr_frame.specs.declared.part.Part.TheVariants.{Randc, Sizes, All}
 use Rattle.svr_frame.specs.Frame.{FrameTerm, is_random, is_cyclic}
-use Rattle.svr_frame.specs.Occurrences.{Guard, Place, Fact, stated, dealt, disabled, Occurrence, Shape, outside, within, is_disable, is_hard, occur, all_occur, occurrences}
+use Rattle.svr_frame.specs.Occurrences.{Guard, Fact, stated, dealt, disabled, Occurrence, Shape, is_disable, is_hard}
 use Rattle.svr_frame.specs.Reads.{Read, of_size, property_read, is_element_read, reads, range_reads, weight_reads, dist_reads, fact_reads, guards_read, reads_of}
-use Rattle.svr_frame.specs.Phases.{shape_at, sought_sizes, active_at, belongs, is_soft_of, mentions_random, mentions_other_random, mentions_random_element}
-use Rattle.svr_frame.specs.Weight.{counts, weight_of, weighed_of, capped, total}
+use Rattle.svr_frame.specs.Phases.{shape_at, belongs, is_soft_of}
+use Rattle.svr_frame.specs.Weight.{counts}
 use Rattle.svr_frame.proofs.Blind.{IsBlind, any_reads, any_range_reads}
 use Rattle.svr_weight.proofs.Weights.{AlikeGuards, AlikeOccurrences, IsEven}
 

@@ -1,13 +1,12 @@
 -- Items that are added up without their occurrences weigh what the occurrences weigh.
 use Rattle.std.proofs.Math.Nat.{mul_assoc}
-use Rattle.std.proofs.Common.{◌≡◌, ◌==◌, ◌/◌, ℕ, zero, suc, ◌+◌, ◌-◌, ◌*◌, ◌^◌, ◌≤◌, Bool, true, false, not, ◌&&◌, ◌||◌, refl, sym, ◌∙◌, ap, subst, List, [], ◌∷◌, ◌++◌, map, Option, None, Some, arith}
+use Rattle.std.proofs.Common.{◌≡◌, ◌==◌, ◌/◌, ℕ, zero, suc, ◌+◌, ◌*◌, Bool, true, false, not, ◌&&◌, ◌||◌, refl, sym, ◌∙◌, ap, subst, List, [], ◌∷◌, ◌++◌, map, Option, None, Some, arith}
 use Rattle.std.specs.Prelude.{⊤, max, filter, if◌then◌else◌, slice_index}
 use Rattle.std.specs.List.{list_any}
 use Rattle.std.proofs.lemmas.List.{map-append}
 use Rattle.std.proofs.lemmas.List.Folds.{list_any-append}
-use Rattle.svr_typed.specs.declared.operator.BinOp.TheVariants as bin
-use Rattle.svr_typed.specs.declared.operator.UnOp.TheVariants as un
-use Rattle.svr_typed.specs.ExprTerm.{ExprTerm, typed, NodeTerm, number, prop, element, cell, size, script, loop_index, reduce, of_object, bit_select, part_select, unary, binary, choice, inside, join, copies, sign, ExprTerms, no_exprs, more_exprs, ranges_of}
+use Rattle.svr_operator.specs.declared.UnOp.TheVariants as un
+use Rattle.svr_typed.specs.ExprTerm.{ExprTerm, typed, number, prop, element, cell, size, script, loop_index, reduce, of_object, bit_select, part_select, unary, binary, choice, inside, join, copies, sign, ExprTerms, no_exprs, more_exprs, ranges_of}
 use Rattle.svr_typed.specs.ItemTerm.{DistTerm, ItemTerm, plain, unique, implies, branch, foreach, disable, solve, ItemTerms, no_items, more_items, ElseTerm, no_else, else_items}
 use Rattle.svr_eval.specs.Value.{size_of, sign_of, property_of}
 use Rattle.svr_frame.specs.declared.part.Part.{Part}
@@ -18,14 +17,14 @@ use Rattle.svr_weight.specs.declared.around.Mentions.{Mentions}
 use Rattle.svr_weight.specs.declared.around.Tests.{Tests}
 use Rattle.svr_weight.specs.declared.around.Around.{Around}
 use Rattle.svr_frame.specs.Frame.{FrameTerm, is_array}
-use Rattle.svr_frame.specs.Closed.{index_number, closed_within, closed}
-use Rattle.svr_frame.specs.Occurrences.{Guard, Place, Fact, stated, dealt, disabled, Occurrence, outside, under, within, has_index, elements_from, member_exprs, members, unequal, pairs, fact_of, occurrence, is_disable, is_hard, occur, all_occur, else_occur, guard_expr, and_also, condition, guarded, closed_members, fact_expr}
+use Rattle.svr_frame.specs.Closed.{index_number, closed}
+use Rattle.svr_frame.specs.Occurrences.{Place, Fact, stated, dealt, disabled, Occurrence, outside, under, within, has_index, elements_from, member_exprs, members, unequal, pairs, fact_of, occurrence, is_disable, is_hard, occur, all_occur, else_occur, and_also, condition, guarded, closed_members, fact_expr}
 use Rattle.svr_frame.specs.Reads.{Read, of_size, reads, fact_reads, dist_reads, guards_read, reads_of}
 use Rattle.svr_frame.specs.Phases.{shape_at, sought_sizes, active_at, belongs, is_soft_of}
 use Rattle.svr_frame.specs.Weight as weight
 use Rattle.svr_frame.specs.Weight.{capped, every_member, occurrence_cost, counts}
-use Rattle.svr_frame.specs.Finds.{is_one, finds, finds_in_members, finds_size, finds_property, finds_element}
-use Rattle.svr_weight.specs.Costs.{array_of, cost, own_cost, members_cost, range_cost, pair_cost}
+use Rattle.svr_frame.specs.Finds.{is_one, finds, finds_in_members, finds_size, finds_element}
+use Rattle.svr_weight.specs.Costs.{array_of, cost, own_cost, members_cost, pair_cost}
 use Rattle.svr_weight.specs.Weighing.{joined, nothing, pair_number, mentioned_by, members_mention, size_mentions, in_loop_over, count_for, member_count, row_turns, is_counted, tested, guarded_weight, leaf_weight, everywhere, with_test, pair_weight, against_weight, unique_weight, plain_weight, item_weight, items_weight, else_weight}
 use Rattle.svr_frame.proofs.Closing.{size_closed}
 use Rattle.svr_weight.proofs.Weights.{cost_closed, range_cost_closed, first_in_row, weighs, weighs-append, foreach_weighs}

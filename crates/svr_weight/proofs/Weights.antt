@@ -1,24 +1,16 @@
 -- What occurrences weigh does not depend on the indexes of their loops: a loop weighs its size times its body.
-use Rattle.std.proofs.Common.{◌≡◌, ◌==◌, ℕ, ◌/◌, zero, suc, ◌+◌, ◌-◌, ◌*◌, Bool, true, false, not, ◌&&◌, ◌||◌, refl, sym, ◌∙◌, ap, subst, List, [], ◌∷◌, ◌++◌, map, Option, None, Some, arith}
+use Rattle.std.proofs.Common.{◌≡◌, ◌==◌, ℕ, ◌/◌, zero, suc, ◌+◌, ◌-◌, ◌*◌, Bool, true, false, refl, sym, ◌∙◌, ap, subst, List, [], ◌∷◌, ◌++◌, map, Option, None, Some, arith}
 use Rattle.std.specs.Prelude.{⊤, max, filter, nat_lt, if◌then◌else◌}
-use Rattle.std.specs.List.{list_any}
-use Rattle.std.proofs.lemmas.List.Folds.{list_any-append}
 use Rattle.std.proofs.lemmas.List.Elements.{filter-append}
-use Rattle.svr_typed.specs.declared.item.Share.{Share}
 use Rattle.svr_typed.specs.ExprTerm.{ExprTerm, typed, NodeTerm, number, prop, element, cell, size, script, loop_index, reduce, of_object, bit_select, part_select, unary, binary, choice, inside, join, copies, sign, ExprTerms, no_exprs, more_exprs, RangeTerm, one, span, RangeTerms, no_ranges, more_ranges, BoundTerm, value, dollar, ranges_of}
 use Rattle.svr_typed.specs.ItemTerm.{DistTerm, ItemTerm, plain, unique, implies, branch, foreach, disable, solve, ItemTerms, no_items, more_items, ElseTerm, no_else, else_items}
-use Rattle.svr_eval.specs.Operator.{unary_kind, binary_kind}
-use Rattle.svr_eval.specs.Value.{size_of, property_of, index_of}
-use Rattle.svr_frame.specs.declared.part.Part.{Part}
-use Rattle.svr_frame.specs.declared.part.Part.TheVariants.{Randc, Sizes, All}
-use Rattle.svr_frame.specs.Frame.{FrameTerm}
+use Rattle.svr_eval.specs.Value.{size_of, index_of}
 use Rattle.svr_frame.specs.Closed.{index_number, closed_within, closed_node, closed_exprs, closed_ranges, closed_range, closed_bound, closed}
-use Rattle.svr_frame.specs.Occurrences.{Guard, Place, Fact, stated, dealt, disabled, Occurrence, Shape, under, within, has_index, members, pairs, each_below, each_of_row, fact_of, occurrence, occur, all_occur, else_occur, guard_expr, and_also, condition, guarded, closed_members, fact_expr}
-use Rattle.svr_frame.specs.Reads.{Read, of_scalar, of_element, of_elements, of_size, reads, node_reads, exprs_read, ranges_read, range_reads, bound_reads, weight_reads, dist_reads, fact_reads, guards_read, reads_of, is_free_size, is_sought, has_free_size_in, is_open}
-use Rattle.svr_frame.specs.Phases.{shape_at, sought_sizes}
-use Rattle.svr_frame.specs.Weight.{cost, node_cost, exprs_cost, ranges_cost, range_cost, bound_cost, member_cost, own_cost, every_member, occurrence_cost, total, counts}
+use Rattle.svr_frame.specs.Occurrences.{Guard, Place, Fact, stated, dealt, disabled, Occurrence, Shape, under, within, has_index, members, pairs, each_below, each_of_row, occurrence, occur, all_occur, else_occur, guard_expr, and_also, condition, guarded, closed_members, fact_expr}
+use Rattle.svr_frame.specs.Reads.{is_free_size, is_sought, has_free_size_in, is_open}
+use Rattle.svr_frame.specs.Weight.{cost, node_cost, exprs_cost, ranges_cost, range_cost, bound_cost, own_cost, every_member, occurrence_cost, total}
 use Rattle.svr_weight.specs.Weighing.{row_turns}
-use Rattle.svr_frame.proofs.Closing.{size_closed, sizes_closed, property_closed}
+use Rattle.svr_frame.proofs.Closing.{size_closed, property_closed}
 use Rattle.svr_frame.proofs.Blind.{IsBlind, any_reads}
 
 -- ---- a closed expression weighs what the one weighs that it was made of

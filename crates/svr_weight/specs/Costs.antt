@@ -1,6 +1,6 @@
 -- What expressions and members of distributions weigh in a phase of a frame.
 use Rattle.std.specs.Prelude.{ℕ, ◌+◌, ◌*◌, max, Bool, ◌||◌, slice_index, if◌then◌else◌, List, [], ◌∷◌, Option, None, Some}
-use Rattle.svr_typed.specs.declared.operator.Fold.{Fold}
+use Rattle.svr_operator.specs.declared.Fold.{Fold}
 use Rattle.svr_typed.specs.ExprTerm.{ExprTerm, NodeTerm, ExprTerms, RangeTerm, RangeTerms, BoundTerm}
 use Rattle.svr_typed.specs.ItemTerm.{DistTerm}
 use Rattle.svr_eval.specs.Value.{size_of}

@@ -12,7 +12,8 @@ ghost use Rattle.svr_weight.specs.Costs as spec;
 
 use svr_eval::{Arithmetic, BinaryKind, Change, UnaryKind, binary_kind, unary_kind};
 use svr_frame::{Frame, Part, holds_free_size, is_open, size_at};
-use svr_typed::{BinOp, Fold, TBound, TDistItem, TExpr, TNode, TRange, UnOp};
+use svr_operator::{BinOp, Fold, UnOp};
+use svr_typed::{TBound, TDistItem, TExpr, TNode, TRange};
 
 /// The sum, or the last value of the type where it is greater.
 pub(crate) fn add(a: u128, b: u128) -> u128
@@ -36,13 +37,7 @@ fn opens(index: &TExpr, frame: &Frame, part: Part, sizes: &[u32]) -> bool
 }
 
 /// Whether one of two indexes is such.
-fn either_opens(
-    first: &TExpr,
-    second: &TExpr,
-    frame: &Frame,
-    part: Part,
-    sizes: &[u32],
-) -> bool
+fn either_opens(first: &TExpr, second: &TExpr, frame: &Frame, part: Part, sizes: &[u32]) -> bool
     ensures { result ≡ (spec.opens (frame_term frame.now) part sizes.now (expr_term first.now) || spec.opens (frame_term frame.now) part sizes.now (expr_term second.now)) }
 {
     opens(first, frame, part, sizes) || opens(second, frame, part, sizes)
@@ -118,7 +113,15 @@ pub(crate) fn cost(e: &TExpr, width: u8, frame: &Frame, part: Part, sizes: &[u32
             element_cost(*prop, index.get(), e.width, frame, part, sizes)
         }
         TNode::Cell(prop, _, first, second) => {
-            cell_cost(*prop, first.get(), second.get(), e.width, frame, part, sizes)
+            cell_cost(
+                *prop,
+                first.get(),
+                second.get(),
+                e.width,
+                frame,
+                part,
+                sizes,
+            )
         }
         TNode::Reduce(prop, op, body) => {
             reduction_cost(*prop, *op, body.get(), frame, part, sizes)

@@ -1,4 +1,4 @@
-use Rattle.std.proofs.Common.{◌≡◌, ◌≤◌, length}
+use Rattle.std.proofs.Common.{◌≡◌}
 use Rattle.svr_frame.specs.Frame.{frame_term}
 use Rattle.svr_frame.specs.Weight.{capped}
 use Rattle.svr_weight.specs.Weighing as spec
