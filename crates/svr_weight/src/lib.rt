@@ -3,7 +3,9 @@
 
 mod around;
 mod cost;
+mod examples;
 mod items;
 mod phase;
 
+pub use examples::weights_are_as_worked_out;
 pub use phase::weight;
