@@ -10,7 +10,6 @@ seen_foreach : (p m names : ℕ) (body : List TItem) → item_term (Foreach p m 
 seen_foreach p m names body = search (rules, the_lemmas)
 
 module _ (a : Reading) (env : List ℕ) (it : TItem) (p m names : ℕ) (body : List TItem) (is : it ≡ Foreach p m names body) where
-
   pub foreach_fails : (i : ℕ) → i < a.size p / m
       → each_in_row m names (λ indexes. all_hold a indexes (item_terms body)) (env ++ i ∷ []) ≡ false → false ≡ holds a env (item_term it)
   foreach_fails i lt e =

@@ -11,10 +11,10 @@ ghost use Rattle.svr_eval.specs.Value as spec;
 
 use crate::assign::Assign;
 use crate::env::Env;
-use crate::operator::{
-    BinaryKind, UnaryKind, binary_kind, fold_operator, fold_start, unary_kind,
+use crate::operator::{BinaryKind, UnaryKind, binary_kind, fold_operator, fold_start, unary_kind};
+use crate::parts::{
+    bits, bits_from, cell_at, copied, element_at, join, literal, place_of, read, truth,
 };
-use crate::parts::{bits, bits_from, cell_at, copied, element_at, join, literal, place_of, read, truth};
 use svr_num::Bits;
 use svr_operator::{BinOp, Fold, UnOp};
 use svr_typed::{TBound, TExpr, TNode, TRange};
@@ -45,9 +45,7 @@ pub fn value_at(e: &TExpr, width: u8, signed: bool, a: &Assign, env: &Env) -> Bi
         }
         TNode::Script(variable) => bits(a.script(*variable), e.width).extend(width, signed),
         TNode::Loop(k) => bits(u64::from(env.loop_index(*k)), 32).extend(width, signed),
-        TNode::Reduce(prop, op, body) => {
-            reduced(*prop, *op, body.get(), width, signed, a, env)
-        }
+        TNode::Reduce(prop, op, body) => { reduced(*prop, *op, body.get(), width, signed, a, env) }
         TNode::Of(_, part) => value_at(part.get(), width, signed, a, env),
         TNode::Select {
             base,

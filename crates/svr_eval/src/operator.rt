@@ -212,6 +212,7 @@ impl Comparison {
 }
 
 impl Connective {
+    /// The result for operands that are true or not.
     pub fn holds(self, p: bool, q: bool) -> bool
         ensures { result ≡ spec.connective_of self p q }
     {
@@ -239,6 +240,7 @@ impl Change {
 }
 
 impl Reduction {
+    /// The bit that it makes of the operand.
     pub fn holds(self, x: Bits) -> bool
         ensures { result ≡ spec.reduction_of self x.width x.value }
     {

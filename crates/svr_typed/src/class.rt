@@ -77,6 +77,7 @@ pub struct TClass {
 }
 
 impl TBlock {
+    /// A block of this name.
     pub fn new(name: Text, items: Items<TItem>) -> TBlock
         ensures { block_term result ≡ record { name = name; items = item_terms items } }
     {
@@ -85,6 +86,7 @@ impl TBlock {
 }
 
 impl FlatClass {
+    /// A class of these properties and blocks.
     pub fn new(props: Items<Prop>, blocks: Items<TBlock>) -> FlatClass
         ensures { flat_term result ≡ record { props = props; blocks = block_terms blocks } }
     {
@@ -93,6 +95,7 @@ impl FlatClass {
 }
 
 impl TClass {
+    /// A class of this name with what it declares itself.
     pub fn new(name: Text, base: Option<u32>, props: Items<Prop>, blocks: Items<TBlock>) -> TClass
         ensures { class_term result ≡ record { name = name; base = base; props = props; blocks = block_terms blocks } }
     {

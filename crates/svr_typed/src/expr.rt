@@ -103,6 +103,7 @@ pub enum TBound {
 }
 
 impl TExpr {
+    /// An expression of this size and sign.
     pub fn new(width: u8, signed: bool, node: TNode) -> TExpr
         ensures { expr_term result ≡ term.typed width signed (node_term node) }
     {
@@ -115,24 +116,28 @@ impl TExpr {
 }
 
 impl TNode {
+    /// A literal, an enum member or a loop number; `every`: `'0` or `'1`.
     pub fn number(value: u64, every: bool) -> TNode
         ensures { node_term result ≡ term.number value every }
     {
         TNode::Number { value, every }
     }
 
+    /// A scalar property, or a whole array.
     pub fn prop(prop: u32) -> TNode
         ensures { node_term result ≡ term.prop prop }
     {
         TNode::Prop(prop)
     }
 
+    /// An element by its index.
     pub fn element(alloc: Global, prop: u32, index: TExpr) -> Result<TNode, NoMemory>
         ensures { IfOk result (λ n. node_term n ≡ term.element prop (expr_term index)) }
     {
         Ok(TNode::Element(prop, Boxed::new(alloc, index)?))
     }
 
+    /// An element by its two indexes; `inner` is the second dimension.
     pub fn cell(
         alloc: Global,
         prop: u32,
@@ -150,36 +155,42 @@ impl TNode {
         ))
     }
 
+    /// The first dimension of an array whose second one is `inner`.
     pub fn size(prop: u32, inner: u32) -> TNode
         ensures { node_term result ≡ term.size prop inner }
     {
         TNode::Size(prop, inner)
     }
 
+    /// A script variable.
     pub fn script(var: u32) -> TNode
         ensures { node_term result ≡ term.script var }
     {
         TNode::Script(var)
     }
 
+    /// The index of the loop that stands so many loops outwards, the innermost being 0.
     pub fn loop_index(depth: u32) -> TNode
         ensures { node_term result ≡ term.loop_index depth }
     {
         TNode::Loop(depth)
     }
 
+    /// The reduction of an array by its body.
     pub fn reduce(alloc: Global, prop: u32, op: Fold, body: TExpr) -> Result<TNode, NoMemory>
         ensures { IfOk result (λ n. node_term n ≡ term.reduce prop op (expr_term body)) }
     {
         Ok(TNode::Reduce(prop, op, Boxed::new(alloc, body)?))
     }
 
+    /// A part of the object that an object variable has.
     pub fn of_object(alloc: Global, object: u32, part: TExpr) -> Result<TNode, NoMemory>
         ensures { IfOk result (λ n. node_term n ≡ term.of_object object (expr_term part)) }
     {
         Ok(TNode::Of(object, Boxed::new(alloc, part)?))
     }
 
+    /// A bit by its number; `low` is the lowest bit's.
     pub fn bit_select(alloc: Global, base: TExpr, index: TExpr, low: i64) -> Result<TNode, NoMemory>
         ensures { IfOk result (λ n. node_term n ≡ term.bit_select (expr_term base) (expr_term index) low) }
     {
@@ -191,6 +202,7 @@ impl TNode {
         })
     }
 
+    /// The bits from one number down to another; `low` is the lowest bit's.
     pub fn part_select(
         alloc: Global,
         base: TExpr,
@@ -208,6 +220,7 @@ impl TNode {
         })
     }
 
+    /// A unary operator and its operand.
     pub fn unary(alloc: Global, op: UnOp, arg: TExpr) -> Result<TNode, NoMemory>
         ensures { IfOk result (λ n. node_term n ≡ term.unary op (expr_term arg)) }
     {
@@ -217,6 +230,7 @@ impl TNode {
         })
     }
 
+    /// A binary operator and its operands.
     pub fn binary(alloc: Global, op: BinOp, left: TExpr, right: TExpr) -> Result<TNode, NoMemory>
         ensures { IfOk result (λ n. node_term n ≡ term.binary op (expr_term left) (expr_term right)) }
     {
@@ -227,6 +241,7 @@ impl TNode {
         })
     }
 
+    /// The conditional operator: a test, and the values where it is true and where it is not.
     pub fn choice(alloc: Global, test: TExpr, yes: TExpr, no: TExpr) -> Result<TNode, NoMemory>
         ensures { IfOk result (λ n. node_term n ≡ term.choice (expr_term test) (expr_term yes) (expr_term no)) }
     {
@@ -237,6 +252,7 @@ impl TNode {
         })
     }
 
+    /// Whether a value is in a set.
     pub fn inside(alloc: Global, left: TExpr, set: Items<TRange>) -> Result<TNode, NoMemory>
         ensures { IfOk result (λ n. node_term n ≡ term.inside (expr_term left) (range_terms set)) }
     {
@@ -246,12 +262,14 @@ impl TNode {
         })
     }
 
+    /// A concatenation, the highest part first.
     pub fn join(parts: Items<TExpr>) -> TNode
         ensures { node_term result ≡ term.join (expr_terms parts) }
     {
         TNode::Join { parts }
     }
 
+    /// A replication of the joined parts.
     pub fn copies(alloc: Global, count: TExpr, parts: Items<TExpr>) -> Result<TNode, NoMemory>
         ensures { IfOk result (λ n. node_term n ≡ term.copies (expr_term count) (expr_terms parts)) }
     {
@@ -261,6 +279,7 @@ impl TNode {
         })
     }
 
+    /// `$signed` or `$unsigned`.
     pub fn sign(alloc: Global, signed: bool, arg: TExpr) -> Result<TNode, NoMemory>
         ensures { IfOk result (λ n. node_term n ≡ term.sign signed (expr_term arg)) }
     {
@@ -272,12 +291,14 @@ impl TNode {
 }
 
 impl TRange {
+    /// A member that is one value.
     pub fn one(value: TExpr) -> TRange
         ensures { range_term result ≡ term.one (expr_term value) }
     {
         TRange::One(value)
     }
 
+    /// The values from one bound to another.
     pub fn span(low: TBound, high: TBound) -> TRange
         ensures { range_term result ≡ term.span (bound_term low) (bound_term high) }
     {
@@ -286,12 +307,14 @@ impl TRange {
 }
 
 impl TBound {
+    /// A bound that is written.
     pub fn value(value: TExpr) -> TBound
         ensures { bound_term result ≡ term.value (expr_term value) }
     {
         TBound::Value(value)
     }
 
+    /// `$`
     pub fn dollar() -> TBound
         ensures { bound_term result ≡ term.dollar }
     {

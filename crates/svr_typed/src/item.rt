@@ -59,6 +59,7 @@ pub enum TItem {
 }
 
 impl TDistItem {
+    /// A member and its weight.
     pub fn new(range: TRange, weight: Option<(Share, TExpr)>) -> TDistItem
         ensures { dist_term result ≡ record { range = range_term range; weight = option_map weight_term weight } }
     {
@@ -67,24 +68,28 @@ impl TDistItem {
 }
 
 impl TItem {
+    /// An expression, or the distribution of its value.
     pub fn plain(soft: bool, expr: TExpr, dist: Option<Items<TDistItem>>) -> TItem
         ensures { item_term result ≡ term.plain soft (expr_term expr) (option_map dist_terms dist) }
     {
         TItem::Plain { soft, expr, dist }
     }
 
+    /// Members no two of which are equal.
     pub fn unique(members: Items<TExpr>) -> TItem
         ensures { item_term result ≡ term.unique (expr_terms members) }
     {
         TItem::Unique { members }
     }
 
+    /// A set under a test.
     pub fn implies(test: TExpr, body: Items<TItem>) -> TItem
         ensures { item_term result ≡ term.implies (expr_term test) (item_terms body) }
     {
         TItem::Implies { test, body }
     }
 
+    /// `if` without `else`.
     pub fn branch(test: TExpr, yes: Items<TItem>) -> TItem
         ensures { item_term result ≡ term.branch (expr_term test) (item_terms yes) term.no_else }
     {
@@ -95,6 +100,7 @@ impl TItem {
         }
     }
 
+    /// `if` with `else`.
     pub fn branch_else(test: TExpr, yes: Items<TItem>, no: Items<TItem>) -> TItem
         ensures { item_term result ≡ term.branch (expr_term test) (item_terms yes) (term.else_items (item_terms no)) }
     {
@@ -105,6 +111,7 @@ impl TItem {
         }
     }
 
+    /// A set for each index of an array, or with two names for each pair of indexes.
     pub fn foreach(array: u32, inner: u32, names: u8, body: Items<TItem>) -> TItem
         ensures { item_term result ≡ term.foreach array inner names (item_terms body) }
     {
@@ -116,12 +123,14 @@ impl TItem {
         }
     }
 
+    /// `disable soft`
     pub fn disable(target: TExpr) -> TItem
         ensures { item_term result ≡ term.disable (expr_term target) }
     {
         TItem::Disable { target }
     }
 
+    /// The first are solved before the later.
     pub fn solve(first: Items<TExpr>, later: Items<TExpr>) -> TItem
         ensures { item_term result ≡ term.solve (expr_terms first) (expr_terms later) }
     {

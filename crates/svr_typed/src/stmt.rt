@@ -101,6 +101,7 @@ pub struct Design {
 }
 
 impl CallStmt {
+    /// A call of `randomize` with its list, its in-line set and the variable that takes its answer.
     pub fn new(object: u32, list: CallList, with: Items<TItem>, answer: Option<u32>) -> CallStmt
         ensures { call_term result ≡ record { object = object; list = list; items = item_terms with; answer = answer } }
     {
@@ -114,18 +115,21 @@ impl CallStmt {
 }
 
 impl TStmt {
+    /// `new` for an object variable.
     pub fn make(object: u32) -> TStmt
         ensures { stmt_term result ≡ term.make object }
     {
         TStmt::Make(object)
     }
 
+    /// An assignment to a script variable.
     pub fn set_var(var: u32, value: TExpr) -> TStmt
         ensures { stmt_term result ≡ term.set_var var (expr_term value) }
     {
         TStmt::SetVar(var, value)
     }
 
+    /// An assignment to a property, or to an element of one.
     pub fn set_prop(object: u32, prop: u32, index: Option<TExpr>, value: TExpr) -> TStmt
         ensures { stmt_term result ≡ term.set_prop object prop (option_map expr_term index) (expr_term value) }
     {
@@ -137,12 +141,14 @@ impl TStmt {
         }
     }
 
+    /// `new[..]` for a dynamic array.
     pub fn resize(object: u32, prop: u32, n: u32) -> TStmt
         ensures { stmt_term result ≡ term.resize object prop n }
     {
         TStmt::Resize { object, prop, n }
     }
 
+    /// An assignment of all elements.
     pub fn pattern(object: u32, prop: u32, values: Items<TExpr>) -> TStmt
         ensures { stmt_term result ≡ term.pattern object prop (expr_terms values) }
     {
@@ -153,30 +159,35 @@ impl TStmt {
         }
     }
 
+    /// The mode of a property, or of all.
     pub fn rand_mode(object: u32, prop: Option<u32>, on: TExpr) -> TStmt
         ensures { stmt_term result ≡ term.rand_mode object prop (expr_term on) }
     {
         TStmt::RandMode { object, prop, on }
     }
 
+    /// The mode of a block, or of all.
     pub fn constraint_mode(object: u32, block: Option<u32>, on: TExpr) -> TStmt
         ensures { stmt_term result ≡ term.constraint_mode object block (expr_term on) }
     {
         TStmt::ConstraintMode { object, block, on }
     }
 
+    /// A call of `randomize`.
     pub fn call(call: CallStmt) -> TStmt
         ensures { stmt_term result ≡ term.call (call_term call) }
     {
         TStmt::Call(call)
     }
 
+    /// A statement that runs so many times.
     pub fn repeat(alloc: Global, count: u32, body: TStmt) -> Result<TStmt, NoMemory>
         ensures { IfOk result (λ s. stmt_term s ≡ term.repeat count (stmt_term body)) }
     {
         Ok(TStmt::Repeat(count, Boxed::new(alloc, body)?))
     }
 
+    /// Statements that run one after the other.
     pub fn list(stmts: Items<TStmt>) -> TStmt
         ensures { stmt_term result ≡ term.list (stmt_terms stmts) }
     {
@@ -185,6 +196,7 @@ impl TStmt {
 }
 
 impl Design {
+    /// A script of these declarations and statements.
     pub fn new(
         enums: Items<EnumType>,
         classes: Items<TClass>,

@@ -4,7 +4,7 @@ use crate::{NoMemory, TExpr, TNode, TRange, TStmt, Text};
 use sqlite_items::Items;
 use std::process::Abort;
 use std::test::Fail;
-use svr_operator::{BinOp, UnOp};
+use svr_operator::{BinOp, Fold, UnOp};
 
 fn number(value: u64) -> TExpr {
     TExpr::new(32, true, TNode::number(value, false))
@@ -18,6 +18,8 @@ fn is_made(rt: &impl Abort, node: Result<TNode, NoMemory>) {
 fn nodes_are_made(rt: HostRuntime) {
     let alloc = rt.alloc();
     is_made(&rt, TNode::element(alloc, 0, number(1)));
+    is_made(&rt, TNode::cell(alloc, 0, 3, number(1), number(2)));
+    is_made(&rt, TNode::reduce(alloc, 0, Fold::Sum, number(1)));
     is_made(&rt, TNode::of_object(alloc, 0, number(1)));
     is_made(&rt, TNode::bit_select(alloc, number(1), number(2), 0));
     is_made(

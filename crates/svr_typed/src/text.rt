@@ -19,18 +19,21 @@ impl Model for Text {
 }
 
 impl Text {
+    /// The text of these bytes.
     pub fn from_vec(bytes: Vec<u8>) -> Text
         ensures { result ≡ bytes.items }
     {
         Text { bytes }
     }
 
+    /// Its bytes.
     pub fn as_bytes(&self) -> &[u8]
         ensures { result.now ≡ self.now }
     {
         self.bytes.as_slice()
     }
 
+    /// Its bytes, taken out.
     pub fn into_vec(self) -> Vec<u8>
         ensures { result.items ≡ self }
     {
