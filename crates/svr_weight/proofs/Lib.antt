@@ -1,0 +1,5 @@
+pub mod Caps
+pub mod Weights
+pub mod Loops
+pub mod Weighed
+pub mod Domains
