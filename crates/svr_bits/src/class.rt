@@ -17,8 +17,8 @@ use crate::object::object;
 use sqlite_items::Items;
 use std::alloc::{AllocError, Global};
 use svr_token::{Names, Token};
-use svr_tree::{ClassDecl, NoMemory, Script};
-use svr_typed::TItem;
+use svr_tree::{ClassDecl, Script};
+use svr_typed::{NoMemory, TItem};
 
 /// A class of scalar bit properties, typed, and its object. The items name properties by their places in `names`.
 #[derive(Drop)]

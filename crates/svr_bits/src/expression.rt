@@ -15,8 +15,8 @@ use sqlite_items::Items;
 use std::alloc::Global;
 use svr_operator::{BinOp, UnOp};
 use svr_token::Names;
-use svr_tree::{Expr, Item, NoMemory, Scope};
-use svr_typed::{TExpr, TItem, TNode};
+use svr_tree::{Expr, Item, Scope};
+use svr_typed::{NoMemory, TExpr, TItem, TNode};
 
 /// The value of a literal of 32 bits, signed.
 pub(crate) fn literal(value: u64, width: u8, signed: bool) -> Option<u64>
