@@ -1,6 +1,6 @@
 //! Gates against their tables, and what folding and sharing save.
 
-ghost use Rattle.std.specs.Prelude.{◌≡◌, false};
+ghost use Rattle.std.specs.Prelude.{◌≡◌, ◌≤◌, ◌<◌, max, false};
 
 use crate::{Builder, NoMemory, table};
 use std::alloc::Global;
@@ -49,22 +49,24 @@ fn define_table(cnf: &Cnf, table: u16, count: u32) -> bool {
     true
 }
 
-/// A gate of two inputs, asked for once or twice.
+/// A gate of two inputs, asked for once more.
 fn gate_of_two(alloc: Global, table: u16, is_again: bool) -> Result<(Lit, Cnf), NoMemory> {
     let mut builder = Builder::new(alloc, 2)?;
-    let mut lit = builder.define::<2>(table, [input(1), input(2)])?;
+    let lit = builder.define::<2>(table, [input(1), input(2)])?;
     if is_again {
-        lit = builder.define::<2>(table, [input(1), input(2)])?;
+        let again = builder.define::<2>(table, [input(1), input(2)])?;
+        return Ok((again, builder.finish()));
     }
     Ok((lit, builder.finish()))
 }
 
-/// A gate of three inputs, asked for once or twice.
+/// A gate of three inputs, asked for once more.
 fn gate_of_three(alloc: Global, table: u16, is_again: bool) -> Result<(Lit, Cnf), NoMemory> {
     let mut builder = Builder::new(alloc, 3)?;
-    let mut lit = builder.define::<3>(table, [input(1), input(2), input(3)])?;
+    let lit = builder.define::<3>(table, [input(1), input(2), input(3)])?;
     if is_again {
-        lit = builder.define::<3>(table, [input(1), input(2), input(3)])?;
+        let again = builder.define::<3>(table, [input(1), input(2), input(3)])?;
+        return Ok((again, builder.finish()));
     }
     Ok((lit, builder.finish()))
 }
@@ -99,47 +101,87 @@ fn other_tables(rt: HostRuntime) -> Result<(), Fail> {
     Ok(())
 }
 
+/// The input that is named x, y or z.
+fn input_of(name: u8) -> Lit
+    ensures { (0 < result.var) × (result.var ≤ 3) }
+{
+    match name {
+        b'x' => input(1),
+        b'y' => input(2),
+        _ => input(3),
+    }
+}
+
 #[test]
-fn sharing(rt: HostRuntime) -> Result<(), Fail> {
-    let mut builder = Builder::new(rt.alloc(), 3)?;
-    let (x, y, z) = (input(1), input(2), input(3));
-    // A parity of all inputs has no order, a choice does not share its test, a root is never shared.
-    let sum = builder.define::<3>(table!(sum), [x, y, z])?;
-    assert_eq!(rt; builder.define::<3>(table!(sum), [z, y, x])?, sum);
-    let choice = builder.define::<3>(table!(choice), [x, y, z])?;
-    assert_ne!(rt; builder.define::<3>(table!(choice), [x, z, y])?, choice);
-    let agree = builder.define::<3>(table!(agree), [x, y, z])?;
-    assert_eq!(rt; builder.define::<3>(table!(agree), [x, z, y])?, agree);
-    let root = builder.root(x)?;
-    assert_ne!(rt; builder.root(x)?, root);
-    let cnf = builder.finish();
-    assert_eq!(rt; (cnf.vars, cnf.clauses.len()), (9, 8 + 4 + 4 + 8 + 2 + 2));
+fn order_of_inputs(rt: HostRuntime) -> Result<(), Fail> {
+    // A parity and a carry are shared in any order, a choice only with its test first.
+    for (table, second, is_shared) in [
+        (table!(sum), *b"zyx", true),
+        (table!(carry), *b"yzx", true),
+        (table!(agree), *b"xzy", true),
+        (table!(agree), *b"yxz", false),
+        (table!(choice), *b"xzy", false),
+    ] {
+        let mut builder = Builder::new(rt.alloc(), 3)?;
+        let first = builder.define::<3>(table, [input(1), input(2), input(3)])?;
+        let inputs = [
+            input_of(second[0]),
+            input_of(second[1]),
+            input_of(second[2]),
+        ];
+        let lit = builder.define::<3>(table, inputs)?;
+        assert_eq!(rt; lit == first, is_shared);
+    }
     Ok(())
+}
+
+/// The constant 0 or 1, or the input that is named x or y.
+fn operand(zero: Lit, name: u8) -> Lit
+    requires { 0 < zero.var }
+    ensures { (0 < result.var) × (result.var ≤ max zero.var 2) }
+{
+    match name {
+        b'0' => zero,
+        b'1' => zero.flipped(),
+        b'x' => input(1),
+        _ => input(2),
+    }
 }
 
 #[test]
 fn folding(rt: HostRuntime) -> Result<(), Fail> {
-    let mut builder = Builder::new(rt.alloc(), 2)?;
-    let x = input(1);
-    let y = input(2);
-    let zero = builder.define::<0>(table!(never), [])?;
-    let one = zero.flipped();
-    assert_eq!(rt; builder.known(one), Some(true));
-    assert_eq!(rt; builder.known(x), None);
-    assert_eq!(rt; builder.define::<2>(table!(both), [x, zero])?, zero);
-    assert_eq!(rt; builder.define::<2>(table!(both), [one, x])?, x);
-    assert_eq!(rt;
-        builder.define::<2>(table!(unequal), [x, one])?,
-        x.flipped()
-    );
-    assert_eq!(rt; builder.define::<3>(table!(choice), [one, y, x])?, y);
-    assert_eq!(rt; builder.define::<1>(table!(same), [y])?, y);
-    let both = builder.define::<3>(table!(carry), [x, y, zero])?;
-    let equal = builder.define::<3>(table!(sum), [x, y, one])?;
-    let root = builder.root(x)?;
-    assert_eq!(rt; (both, equal, root), (input(4), input(5), input(6)));
-    let cnf = builder.finish();
-    assert_eq!(rt; cnf.vars, 6);
-    assert_eq!(rt; cnf.clauses.len(), 1 + 3 + 4 + 2);
+    // The sign says whether the gate is the operand that is named last, or its negation.
+    for (table, ins, wanted, neg) in [
+        (table!(both), *b"x0", b'0', false),
+        (table!(both), *b"1x", b'x', false),
+        (table!(either), *b"x1", b'1', false),
+        (table!(unequal), *b"x1", b'x', true),
+        (table!(unequal), *b"00", b'0', false),
+    ] {
+        let mut builder = Builder::new(rt.alloc(), 2)?;
+        let zero = builder.define::<0>(table!(never), [])?;
+        let inputs = [operand(zero, ins[0]), operand(zero, ins[1])];
+        let lit = builder.define::<2>(table, inputs)?;
+        let wanted = operand(zero, wanted);
+        assert_eq!(rt; (lit.var, lit.neg), (wanted.var, wanted.neg != neg));
+        assert_eq!(rt; builder.finish().clauses.len(), 1);
+    }
+    Ok(())
+}
+
+#[test]
+fn known_inputs(rt: HostRuntime) -> Result<(), Fail> {
+    // Beside a known input a sum of three is a parity, its carry a conjunction or a disjunction.
+    for (table, third, count) in [
+        (table!(sum), b'0', 4),
+        (table!(sum), b'1', 4),
+        (table!(carry), b'0', 3),
+        (table!(carry), b'1', 3),
+    ] {
+        let mut builder = Builder::new(rt.alloc(), 2)?;
+        let zero = builder.define::<0>(table!(never), [])?;
+        let _gate = builder.define::<3>(table, [input(1), input(2), operand(zero, third)])?;
+        assert_eq!(rt; builder.finish().clauses.len(), 1 + count);
+    }
     Ok(())
 }
