@@ -12,8 +12,6 @@ mod memory;
 mod order;
 mod product;
 mod quotient;
-#[cfg(test)]
-mod tests;
 
 pub use adder::{add, neg, sub};
 pub use memory::NoMemory;

@@ -40,7 +40,7 @@ type_width _ = None
 -- the token of the name of a declarator with no dimension and no initial value
 abbrev pub plain_name : Option DeclaratorTree → Option ℕ
 plain_name None = None
-plain_name (Some d) = if is_none d.dim && is_none d.first then Some d.name else None
+plain_name (Some d) = if is_nil d.dims && is_none d.value then Some d.name else None
 
 abbrev pub is_rand : Rand → Bool
 is_rand rand.Rand = true
@@ -96,7 +96,7 @@ module _ (name : ℕ → List ℕ) where
 
   -- `class object = new;`
   abbrev pub declared : List ℕ → DataTypeTree → Option VarDeclaratorTree → Option (List ℕ)
-  declared class (named t) (Some v) = if bytes_eq (name t) class && is_new v.first then Some (name v.name) else None
+  declared class (named t) (Some v) = if bytes_eq (name t) class && is_new v.init then Some (name v.name) else None
   declared class _ _ = None
 
   abbrev pub declared_in : List ℕ → Option VarTree → Option (List ℕ)

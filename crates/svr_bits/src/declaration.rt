@@ -9,7 +9,7 @@ ghost use Rattle.svr_bits.specs.Declarations as spec;
 ghost use Rattle.svr_bits.specs.Form.{parts_term};
 
 use crate::expression::literal;
-use crate::names::only;
+use crate::names::{is_nil, only};
 use std::alloc::{AllocError, Global};
 use svr_operator::Rand;
 use svr_token::Names;
@@ -80,7 +80,7 @@ fn plain_name(declarator: Option<&Declarator>) -> Option<u32>
 {
     match declarator {
         Some(declarator) => {
-            if declarator.dim.is_none() && declarator.first.is_none() {
+            if is_nil(declarator.dims.as_slice()) && declarator.value.is_none() {
                 Some(declarator.name)
             } else {
                 None

@@ -17,10 +17,10 @@ use svr_tree::{
     VarDeclarator, VarInit,
 };
 
-fn is_new(first: &Option<VarInit>) -> bool
-    ensures { result ≡ spec.is_new (option_map var_init_tree first.now) }
+fn is_new(init: &Option<VarInit>) -> bool
+    ensures { result ≡ spec.is_new (option_map var_init_tree init.now) }
 {
-    matches!(first, Some(VarInit::New { parens: false }))
+    matches!(init, Some(VarInit::New { parens: false }))
 }
 
 /// The name of a variable of the class that starts as a new object.
@@ -34,7 +34,7 @@ fn declared<'a>(
 {
     match (kind, var) {
         (DataType::Named(kind), Some(var)) => {
-            if names.name(*kind) == class && is_new(&var.first) {
+            if names.name(*kind) == class && is_new(&var.init) {
                 Some(names.name(var.name))
             } else {
                 None

@@ -24,8 +24,8 @@ fn path(alloc: Global, name: u32) -> Result<Expr, AllocError> {
 fn property(alloc: Global, name: u32) -> Result<ClassItem, AllocError> {
     let declarator = Declarator {
         name,
-        dim: None,
-        first: None,
+        dims: Items::new(alloc),
+        value: None,
     };
     Ok(ClassItem::Property(PropertyDecl {
         rand: Rand::Rand,
@@ -58,7 +58,7 @@ fn block(alloc: Global, name: u32, property: u32) -> Result<ClassItem, NoMemory>
 fn module(alloc: Global, object: u32, target: u32) -> Result<UnitDecl, AllocError> {
     let var = VarDeclarator {
         name: object,
-        first: Some(VarInit::New { parens: false }),
+        init: Some(VarInit::New { parens: false }),
     };
     let decl = VarDecl {
         kind: DataType::Named(0),

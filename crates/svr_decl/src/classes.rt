@@ -6,14 +6,15 @@ ghost use Rattle.svr_reader.specs.declared.fixed.Fixed.TheVariants as f;
 ghost use Rattle.svr_tree.specs.DeclTree.{block_tree, class_item_tree, class_tree};
 ghost use Rattle.svr_reader.specs.Lists as lists;
 ghost use Rattle.svr_reader.specs.Answers.{Gives};
-ghost use Rattle.svr_reader.specs.Calls.{cap, tall_by, talls_by};
+ghost use Rattle.svr_reader.specs.Calls.{cap, height_view, heights_view};
 ghost use Rattle.svr_decl.specs.DeclRules as rules;
 
 use crate::reader::Reader;
 use sqlite_items::Items;
 use std::alloc::Global;
 use svr_reader::{Cursor, Fixed, ReadFault, until};
-use svr_tree::{ClassDecl, ClassItem, ConstraintBlock, Mark, Word};
+use svr_token::{Mark, Word};
+use svr_tree::{ClassDecl, ClassItem, ConstraintBlock};
 
 /// A class, and the greatest height of an expression or of an item of a block in it (IEEE 1800-2017, A.1.2: `class_declaration`). None is higher than `room`.
 ///
@@ -26,7 +27,7 @@ pub fn class(
     cursor: &mut Cursor<'_>,
     room: usize,
 ) -> Result<(ClassDecl, usize), ReadFault>
-    ensures gives { Gives (tall_by class_tree) (rules.class cap room cursor.old) result cursor.new }
+    ensures gives { Gives (height_view class_tree) (rules.class cap room cursor.old) result cursor.new }
     ensures low { IfOk result (λ x. x.1 ≤ room) }
 {
     Reader { alloc, room }.class(cursor)
@@ -35,22 +36,22 @@ pub fn class(
 impl Reader {
     // Behind `constraint`.
     #[tactic(auto, unfolding(crate::specs::DeclRules::block_on))]
-    fn block_on(self, cursor: &mut Cursor<'_>) -> Result<(ConstraintBlock, usize), ReadFault>
-        ensures gives { Gives (tall_by block_tree) (rules.within cap self.room rules.block_on cursor.old) result cursor.new }
-        ensures low { IfOk result (λ x. x.1 ≤ self.room) }
+    fn block_on(&self, cursor: &mut Cursor<'_>) -> Result<(ConstraintBlock, usize), ReadFault>
+        ensures gives { Gives (height_view block_tree) (rules.within cap self.now.room rules.block_on cursor.old) result cursor.new }
+        ensures low { IfOk result (λ x. x.1 ≤ self.now.room) }
     {
-        let name = self.name(cursor)?;
-        self.expect(cursor, Fixed::Mark(Mark::OpenBrace))?;
+        let name = cursor.name()?;
+        cursor.expect(Fixed::Mark(Mark::OpenBrace))?;
         let (items, height) = self.block_items(cursor)?;
         Ok((ConstraintBlock { name, items }, height))
     }
 
     #[tactic(auto, unfolding(crate::specs::DeclRules::class_item))]
-    fn class_item(self, cursor: &mut Cursor<'_>) -> Result<(ClassItem, usize), ReadFault>
-        ensures gives { Gives (tall_by class_item_tree) (rules.within cap self.room rules.class_item cursor.old) result cursor.new }
-        ensures low { IfOk result (λ x. x.1 ≤ self.room) }
+    fn class_item(&self, cursor: &mut Cursor<'_>) -> Result<(ClassItem, usize), ReadFault>
+        ensures gives { Gives (height_view class_item_tree) (rules.within cap self.now.room rules.class_item cursor.old) result cursor.new }
+        ensures low { IfOk result (λ x. x.1 ≤ self.now.room) }
     {
-        if self.eat(cursor, Fixed::Word(Word::Constraint))? {
+        if cursor.eat(Fixed::Word(Word::Constraint)) {
             let (block, height) = self.block_on(cursor)?;
             Ok((ClassItem::Constraint(block), height))
         } else {
@@ -60,9 +61,9 @@ impl Reader {
     }
 
     // With `endclass`.
-    fn class_items(self, cursor: &mut Cursor<'_>) -> Result<(Items<ClassItem>, usize), ReadFault>
-        ensures gives { Gives (talls_by class_item_tree) (rules.within cap self.room (lists.until (f.Word w.EndClass) rules.class_item) cursor.old) result cursor.new }
-        ensures low { IfOk result (λ x. x.1 ≤ self.room) }
+    fn class_items(&self, cursor: &mut Cursor<'_>) -> Result<(Items<ClassItem>, usize), ReadFault>
+        ensures gives { Gives (heights_view class_item_tree) (rules.within cap self.now.room (lists.until (f.Word w.EndClass) rules.class_item) cursor.old) result cursor.new }
+        ensures low { IfOk result (λ x. x.1 ≤ self.now.room) }
     {
         until(self.alloc, cursor, Fixed::Word(Word::EndClass), |cursor| {
             self.class_item(cursor)
@@ -70,14 +71,14 @@ impl Reader {
     }
 
     #[tactic(auto, unfolding(crate::specs::DeclRules::class_in))]
-    fn class(self, cursor: &mut Cursor<'_>) -> Result<(ClassDecl, usize), ReadFault>
-        ensures gives { Gives (tall_by class_tree) (rules.within cap self.room rules.class_in cursor.old) result cursor.new }
-        ensures low { IfOk result (λ x. x.1 ≤ self.room) }
+    fn class(&self, cursor: &mut Cursor<'_>) -> Result<(ClassDecl, usize), ReadFault>
+        ensures gives { Gives (height_view class_tree) (rules.within cap self.now.room rules.class_in cursor.old) result cursor.new }
+        ensures low { IfOk result (λ x. x.1 ≤ self.now.room) }
     {
-        self.expect(cursor, Fixed::Word(Word::Class))?;
-        let name = self.name(cursor)?;
+        cursor.expect(Fixed::Word(Word::Class))?;
+        let name = cursor.name()?;
         let base = self.name_behind(cursor, Fixed::Word(Word::Extends))?;
-        self.expect(cursor, Fixed::Mark(Mark::Semicolon))?;
+        cursor.expect(Fixed::Mark(Mark::Semicolon))?;
         let (items, height) = self.class_items(cursor)?;
         let label = self.name_behind(cursor, Fixed::Mark(Mark::Colon))?;
         let found = ClassDecl {

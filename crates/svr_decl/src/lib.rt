@@ -4,8 +4,6 @@
 mod classes;
 mod properties;
 mod reader;
-#[cfg(test)]
-mod tests;
 mod typedefs;
 mod types;
 mod variables;

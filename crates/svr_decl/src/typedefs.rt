@@ -5,7 +5,7 @@ ghost use Rattle.svr_tree.specs.ExprTree.{expr_tree};
 ghost use Rattle.svr_tree.specs.DeclTree.{integer_tree, member_tree, definition_tree, type_decl_tree};
 ghost use Rattle.svr_reader.specs.Lists as lists;
 ghost use Rattle.svr_reader.specs.Answers.{Gives};
-ghost use Rattle.svr_reader.specs.Calls.{cap, tall_by, talls_by};
+ghost use Rattle.svr_reader.specs.Calls.{cap, height_view, heights_view};
 ghost use Rattle.svr_decl.specs.DeclRules as rules;
 
 use crate::reader::Reader;
@@ -13,7 +13,8 @@ use crate::types::starts_type;
 use sqlite_items::Items;
 use std::alloc::Global;
 use svr_reader::{Cursor, Fixed, ReadFault, listing};
-use svr_tree::{EnumDecl, Expr, IntegerType, Mark, MemberDecl, TypeDecl, TypeDefinition, Word};
+use svr_token::{Mark, Word};
+use svr_tree::{EnumDecl, Expr, IntegerType, MemberDecl, TypeDecl, TypeDefinition};
 
 /// A type declaration, and the greatest height of an expression in it (IEEE 1800-2017, A.2.1.3). No expression is higher than `room`.
 ///
@@ -26,7 +27,7 @@ pub fn typedef(
     cursor: &mut Cursor<'_>,
     room: usize,
 ) -> Result<(TypeDecl, usize), ReadFault>
-    ensures gives { Gives (tall_by type_decl_tree) (rules.typedef cap room cursor.old) result cursor.new }
+    ensures gives { Gives (height_view type_decl_tree) (rules.typedef cap room cursor.old) result cursor.new }
     ensures low { IfOk result (λ x. x.1 ≤ room) }
 {
     Reader { alloc, room }.typedef(cursor)
@@ -35,11 +36,11 @@ pub fn typedef(
 impl Reader {
     /// `[= value]`
     #[tactic(auto, unfolding(crate::specs::DeclRules::initial))]
-    pub fn initial(self, cursor: &mut Cursor<'_>) -> Result<(Option<Expr>, usize), ReadFault>
-        ensures gives { Gives (tall_by (option_map expr_tree)) (rules.within cap self.room rules.initial cursor.old) result cursor.new }
-        ensures low { IfOk result (λ x. x.1 ≤ self.room) }
+    pub fn initial(&self, cursor: &mut Cursor<'_>) -> Result<(Option<Expr>, usize), ReadFault>
+        ensures gives { Gives (height_view (option_map expr_tree)) (rules.within cap self.now.room rules.initial cursor.old) result cursor.new }
+        ensures low { IfOk result (λ x. x.1 ≤ self.now.room) }
     {
-        if self.eat(cursor, Fixed::Mark(Mark::Assign))? {
+        if cursor.eat(Fixed::Mark(Mark::Assign)) {
             let (value, height) = self.expression(cursor)?;
             Ok((Some(value), height))
         } else {
@@ -48,26 +49,26 @@ impl Reader {
     }
 
     #[tactic(auto, unfolding(crate::specs::DeclRules::member))]
-    fn member(self, cursor: &mut Cursor<'_>) -> Result<(MemberDecl, usize), ReadFault>
-        ensures gives { Gives (tall_by member_tree) (rules.within cap self.room rules.member cursor.old) result cursor.new }
-        ensures low { IfOk result (λ x. x.1 ≤ self.room) }
+    fn member(&self, cursor: &mut Cursor<'_>) -> Result<(MemberDecl, usize), ReadFault>
+        ensures gives { Gives (height_view member_tree) (rules.within cap self.now.room rules.member cursor.old) result cursor.new }
+        ensures low { IfOk result (λ x. x.1 ≤ self.now.room) }
     {
-        let name = self.name(cursor)?;
+        let name = cursor.name()?;
         let (value, height) = self.initial(cursor)?;
         Ok((MemberDecl { name, value }, height))
     }
 
-    fn members(self, cursor: &mut Cursor<'_>) -> Result<(Items<MemberDecl>, usize), ReadFault>
-        ensures gives { Gives (talls_by member_tree) (rules.within cap self.room (lists.listing rules.member) cursor.old) result cursor.new }
-        ensures low { IfOk result (λ x. x.1 ≤ self.room) }
+    fn members(&self, cursor: &mut Cursor<'_>) -> Result<(Items<MemberDecl>, usize), ReadFault>
+        ensures gives { Gives (heights_view member_tree) (rules.within cap self.now.room (lists.listing rules.member) cursor.old) result cursor.new }
+        ensures low { IfOk result (λ x. x.1 ≤ self.now.room) }
     {
         listing(self.alloc, cursor, |cursor| self.member(cursor))
     }
 
     #[tactic(auto, unfolding(crate::specs::DeclRules::enum_base, crate::specs::DeclRules::written_base))]
-    fn enum_base(self, cursor: &mut Cursor<'_>) -> Result<(Option<IntegerType>, usize), ReadFault>
-        ensures gives { Gives (tall_by (option_map integer_tree)) (rules.within cap self.room rules.enum_base cursor.old) result cursor.new }
-        ensures low { IfOk result (λ x. x.1 ≤ self.room) }
+    fn enum_base(&self, cursor: &mut Cursor<'_>) -> Result<(Option<IntegerType>, usize), ReadFault>
+        ensures gives { Gives (height_view (option_map integer_tree)) (rules.within cap self.now.room rules.enum_base cursor.old) result cursor.new }
+        ensures low { IfOk result (λ x. x.1 ≤ self.now.room) }
     {
         if starts_type(cursor.peek()) {
             let (base, height) = self.integer_type(cursor)?;
@@ -79,14 +80,14 @@ impl Reader {
 
     // Behind `enum`.
     #[tactic(auto, unfolding(crate::specs::DeclRules::enum_on))]
-    fn enum_on(self, cursor: &mut Cursor<'_>) -> Result<(TypeDefinition, usize), ReadFault>
-        ensures gives { Gives (tall_by definition_tree) (rules.within cap self.room rules.enum_on cursor.old) result cursor.new }
-        ensures low { IfOk result (λ x. x.1 ≤ self.room) }
+    fn enum_on(&self, cursor: &mut Cursor<'_>) -> Result<(TypeDefinition, usize), ReadFault>
+        ensures gives { Gives (height_view definition_tree) (rules.within cap self.now.room rules.enum_on cursor.old) result cursor.new }
+        ensures low { IfOk result (λ x. x.1 ≤ self.now.room) }
     {
         let (base, base_height) = self.enum_base(cursor)?;
-        self.expect(cursor, Fixed::Mark(Mark::OpenBrace))?;
+        cursor.expect(Fixed::Mark(Mark::OpenBrace))?;
         let (members, members_height) = self.members(cursor)?;
-        self.expect(cursor, Fixed::Mark(Mark::CloseBrace))?;
+        cursor.expect(Fixed::Mark(Mark::CloseBrace))?;
         Ok((
             TypeDefinition::Enum(EnumDecl { base, members }),
             base_height.max(members_height),
@@ -94,11 +95,11 @@ impl Reader {
     }
 
     #[tactic(auto, unfolding(crate::specs::DeclRules::definition, crate::specs::DeclRules::plain_definition))]
-    fn definition(self, cursor: &mut Cursor<'_>) -> Result<(TypeDefinition, usize), ReadFault>
-        ensures gives { Gives (tall_by definition_tree) (rules.within cap self.room rules.definition cursor.old) result cursor.new }
-        ensures low { IfOk result (λ x. x.1 ≤ self.room) }
+    fn definition(&self, cursor: &mut Cursor<'_>) -> Result<(TypeDefinition, usize), ReadFault>
+        ensures gives { Gives (height_view definition_tree) (rules.within cap self.now.room rules.definition cursor.old) result cursor.new }
+        ensures low { IfOk result (λ x. x.1 ≤ self.now.room) }
     {
-        if self.eat(cursor, Fixed::Word(Word::Enum))? {
+        if cursor.eat(Fixed::Word(Word::Enum)) {
             self.enum_on(cursor)
         } else {
             let (found, height) = self.integer_type(cursor)?;
@@ -107,14 +108,14 @@ impl Reader {
     }
 
     #[tactic(auto, unfolding(crate::specs::DeclRules::typedef_in))]
-    fn typedef(self, cursor: &mut Cursor<'_>) -> Result<(TypeDecl, usize), ReadFault>
-        ensures gives { Gives (tall_by type_decl_tree) (rules.within cap self.room rules.typedef_in cursor.old) result cursor.new }
-        ensures low { IfOk result (λ x. x.1 ≤ self.room) }
+    fn typedef(&self, cursor: &mut Cursor<'_>) -> Result<(TypeDecl, usize), ReadFault>
+        ensures gives { Gives (height_view type_decl_tree) (rules.within cap self.now.room rules.typedef_in cursor.old) result cursor.new }
+        ensures low { IfOk result (λ x. x.1 ≤ self.now.room) }
     {
-        self.expect(cursor, Fixed::Word(Word::TypeDef))?;
+        cursor.expect(Fixed::Word(Word::TypeDef))?;
         let (definition, height) = self.definition(cursor)?;
-        let name = self.name(cursor)?;
-        self.expect(cursor, Fixed::Mark(Mark::Semicolon))?;
+        let name = cursor.name()?;
+        cursor.expect(Fixed::Mark(Mark::Semicolon))?;
         Ok((TypeDecl { definition, name }, height))
     }
 }

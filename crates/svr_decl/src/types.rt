@@ -2,15 +2,14 @@
 
 ghost use Rattle.std.specs.Prelude.{◌≡◌, ◌≤◌, IfOk, option_map};
 ghost use Rattle.svr_tree.specs.DeclTree.{packed_tree, integer_tree, type_tree};
-ghost use Rattle.svr_reader.specs.Answers.{Gives};
-ghost use Rattle.svr_reader.specs.Calls.{cap, tall_by};
+ghost use Rattle.svr_reader.specs.Answers.{Answers, Gives};
+ghost use Rattle.svr_reader.specs.Calls.{cap, height_view};
 ghost use Rattle.svr_decl.specs.DeclRules as rules;
 
 use crate::reader::Reader;
 use svr_reader::{Cursor, Fixed, ReadFault};
-use svr_tree::{
-    AtomKind, DataType, IntegerType, Lexeme, Mark, PackedRange, Signing, VectorKind, Word,
-};
+use svr_token::{Lexeme, Mark, Word};
+use svr_tree::{AtomKind, DataType, IntegerType, PackedRange, Signing, VectorKind};
 
 /// Whether a token begins an integer type (IEEE 1800-2017, A.2.2.1). None is the end of the text.
 pub fn starts_type(lexeme: Option<Lexeme>) -> bool
@@ -43,8 +42,8 @@ pub fn starts_var(lexeme: Option<Lexeme>) -> bool
 
 impl Reader {
     #[tactic(auto, unfolding(crate::specs::DeclRules::signing))]
-    fn signing(self, cursor: &mut Cursor<'_>) -> Result<Option<Signing>, ReadFault>
-        ensures { Gives (λ s. s) (rules.within cap self.room rules.signing cursor.old) result cursor.new }
+    fn signing(&self, cursor: &mut Cursor<'_>) -> Result<Option<Signing>, ReadFault>
+        ensures { Answers (λ s. s) (rules.within cap self.now.room rules.signing cursor.old) result cursor.new }
     {
         match cursor.peek() {
             Some(Lexeme::Word(Word::Signed)) => {
@@ -62,17 +61,17 @@ impl Reader {
     // Behind `[`, which is the token `at`.
     #[tactic(auto, unfolding(crate::specs::DeclRules::packed_on))]
     fn packed_on(
-        self,
+        &self,
         cursor: &mut Cursor<'_>,
         at: u32,
     ) -> Result<(Option<PackedRange>, usize), ReadFault>
-        ensures gives { Gives (tall_by (option_map packed_tree)) (rules.within cap self.room (rules.packed_on at) cursor.old) result cursor.new }
-        ensures low { IfOk result (λ x. x.1 ≤ self.room) }
+        ensures gives { Gives (height_view (option_map packed_tree)) (rules.within cap self.now.room (rules.packed_on at) cursor.old) result cursor.new }
+        ensures low { IfOk result (λ x. x.1 ≤ self.now.room) }
     {
         let (msb, msb_height) = self.expression(cursor)?;
-        self.expect(cursor, Fixed::Mark(Mark::Colon))?;
+        cursor.expect(Fixed::Mark(Mark::Colon))?;
         let (lsb, lsb_height) = self.expression(cursor)?;
-        self.expect(cursor, Fixed::Mark(Mark::CloseBracket))?;
+        cursor.expect(Fixed::Mark(Mark::CloseBracket))?;
         Ok((
             Some(PackedRange { at, msb, lsb }),
             msb_height.max(lsb_height),
@@ -80,9 +79,9 @@ impl Reader {
     }
 
     #[tactic(auto, unfolding(crate::specs::DeclRules::packed))]
-    fn packed(self, cursor: &mut Cursor<'_>) -> Result<(Option<PackedRange>, usize), ReadFault>
-        ensures gives { Gives (tall_by (option_map packed_tree)) (rules.within cap self.room rules.packed cursor.old) result cursor.new }
-        ensures low { IfOk result (λ x. x.1 ≤ self.room) }
+    fn packed(&self, cursor: &mut Cursor<'_>) -> Result<(Option<PackedRange>, usize), ReadFault>
+        ensures gives { Gives (height_view (option_map packed_tree)) (rules.within cap self.now.room rules.packed cursor.old) result cursor.new }
+        ensures low { IfOk result (λ x. x.1 ≤ self.now.room) }
     {
         match cursor.peek() {
             Some(Lexeme::Mark(Mark::OpenBracket)) => {
@@ -95,12 +94,12 @@ impl Reader {
 
     #[tactic(auto, unfolding(crate::specs::DeclRules::vector_type))]
     fn vector_type(
-        self,
+        &self,
         cursor: &mut Cursor<'_>,
         kind: VectorKind,
     ) -> Result<(IntegerType, usize), ReadFault>
-        ensures gives { Gives (tall_by integer_tree) (rules.within cap self.room (rules.vector_type kind) cursor.old) result cursor.new }
-        ensures low { IfOk result (λ x. x.1 ≤ self.room) }
+        ensures gives { Gives (height_view integer_tree) (rules.within cap self.now.room (rules.vector_type kind) cursor.old) result cursor.new }
+        ensures low { IfOk result (λ x. x.1 ≤ self.now.room) }
     {
         let at = cursor.take()?;
         let signing = self.signing(cursor)?;
@@ -118,12 +117,12 @@ impl Reader {
 
     #[tactic(auto, unfolding(crate::specs::DeclRules::atom_type))]
     fn atom_type(
-        self,
+        &self,
         cursor: &mut Cursor<'_>,
         kind: AtomKind,
     ) -> Result<(IntegerType, usize), ReadFault>
-        ensures gives { Gives (tall_by integer_tree) (rules.within cap self.room (rules.atom_type kind) cursor.old) result cursor.new }
-        ensures low { IfOk result (λ x. x.1 ≤ self.room) }
+        ensures gives { Gives (height_view integer_tree) (rules.within cap self.now.room (rules.atom_type kind) cursor.old) result cursor.new }
+        ensures low { IfOk result (λ x. x.1 ≤ self.now.room) }
     {
         let at = cursor.take()?;
         let signing = self.signing(cursor)?;
@@ -132,9 +131,9 @@ impl Reader {
 
     /// IEEE 1800-2017, A.2.2.1: `integer_type`
     #[tactic(auto, unfolding(crate::specs::DeclRules::integer_type))]
-    pub fn integer_type(self, cursor: &mut Cursor<'_>) -> Result<(IntegerType, usize), ReadFault>
-        ensures gives { Gives (tall_by integer_tree) (rules.within cap self.room rules.integer_type cursor.old) result cursor.new }
-        ensures low { IfOk result (λ x. x.1 ≤ self.room) }
+    pub fn integer_type(&self, cursor: &mut Cursor<'_>) -> Result<(IntegerType, usize), ReadFault>
+        ensures gives { Gives (height_view integer_tree) (rules.within cap self.now.room rules.integer_type cursor.old) result cursor.new }
+        ensures low { IfOk result (λ x. x.1 ≤ self.now.room) }
     {
         match cursor.peek() {
             Some(Lexeme::Word(Word::Bit)) => self.vector_type(cursor, VectorKind::Bit),
@@ -151,12 +150,12 @@ impl Reader {
 
     /// IEEE 1800-2017, A.2.2.1: `data_type`
     #[tactic(auto, unfolding(crate::specs::DeclRules::data_type, crate::specs::DeclRules::named_type, crate::specs::DeclRules::written_type))]
-    pub fn data_type(self, cursor: &mut Cursor<'_>) -> Result<(DataType, usize), ReadFault>
-        ensures gives { Gives (tall_by type_tree) (rules.within cap self.room rules.data_type cursor.old) result cursor.new }
-        ensures low { IfOk result (λ x. x.1 ≤ self.room) }
+    pub fn data_type(&self, cursor: &mut Cursor<'_>) -> Result<(DataType, usize), ReadFault>
+        ensures gives { Gives (height_view type_tree) (rules.within cap self.now.room rules.data_type cursor.old) result cursor.new }
+        ensures low { IfOk result (λ x. x.1 ≤ self.now.room) }
     {
         match cursor.peek() {
-            Some(Lexeme::Name(_)) => Ok((DataType::Named(self.name(cursor)?), 0)),
+            Some(Lexeme::Name(_)) => Ok((DataType::Named(cursor.name()?), 0)),
             _ => {
                 let (found, height) = self.integer_type(cursor)?;
                 Ok((DataType::Integer(found), height))

@@ -4,14 +4,15 @@ ghost use Rattle.std.specs.Prelude.{◌≤◌, IfOk, option_map};
 ghost use Rattle.svr_tree.specs.DeclTree.{type_tree, var_init_tree, var_declarator_tree, var_tree};
 ghost use Rattle.svr_reader.specs.Lists as lists;
 ghost use Rattle.svr_reader.specs.Answers.{Gives};
-ghost use Rattle.svr_reader.specs.Calls.{cap, tall_by, talls_by};
+ghost use Rattle.svr_reader.specs.Calls.{cap, height_view, heights_view};
 ghost use Rattle.svr_decl.specs.DeclRules as rules;
 
 use crate::reader::Reader;
 use sqlite_items::Items;
 use std::alloc::Global;
 use svr_reader::{Cursor, Fixed, ReadFault, listing};
-use svr_tree::{DataType, Mark, VarDecl, VarDeclarator, VarInit, Word};
+use svr_token::{Mark, Word};
+use svr_tree::{DataType, VarDecl, VarDeclarator, VarInit};
 
 /// Variables of one type, and the greatest height of an expression in their declaration (IEEE 1800-2017, A.2.1.3: `data_declaration`). No expression is higher than `room`.
 ///
@@ -24,7 +25,7 @@ pub fn var(
     cursor: &mut Cursor<'_>,
     room: usize,
 ) -> Result<(VarDecl, usize), ReadFault>
-    ensures gives { Gives (tall_by var_tree) (rules.var cap room cursor.old) result cursor.new }
+    ensures gives { Gives (height_view var_tree) (rules.var cap room cursor.old) result cursor.new }
     ensures low { IfOk result (λ x. x.1 ≤ room) }
 {
     Reader { alloc, room }.var(cursor)
@@ -42,33 +43,20 @@ pub fn var_on(
     room: usize,
     name: u32,
 ) -> Result<(VarDecl, usize), ReadFault>
-    ensures gives { Gives (tall_by var_tree) (rules.var_on cap room name cursor.old) result cursor.new }
+    ensures gives { Gives (height_view var_tree) (rules.var_on cap room name cursor.old) result cursor.new }
     ensures low { IfOk result (λ x. x.1 ≤ room) }
 {
     Reader { alloc, room }.vars_on(cursor, DataType::Named(name), 0)
 }
 
 impl Reader {
-    // `[()]`
-    #[tactic(auto, unfolding(crate::specs::DeclRules::parens))]
-    fn parens(self, cursor: &mut Cursor<'_>) -> Result<bool, ReadFault>
-        ensures { Gives (λ b. b) (rules.within cap self.room rules.parens cursor.old) result cursor.new }
-    {
-        if self.eat(cursor, Fixed::Mark(Mark::OpenParen))? {
-            self.expect(cursor, Fixed::Mark(Mark::CloseParen))?;
-            Ok(true)
-        } else {
-            Ok(false)
-        }
-    }
-
     // Behind `=`.
     #[tactic(auto, unfolding(crate::specs::DeclRules::var_value))]
-    fn var_value(self, cursor: &mut Cursor<'_>) -> Result<(Option<VarInit>, usize), ReadFault>
-        ensures gives { Gives (tall_by (option_map var_init_tree)) (rules.within cap self.room rules.var_value cursor.old) result cursor.new }
-        ensures low { IfOk result (λ x. x.1 ≤ self.room) }
+    fn var_value(&self, cursor: &mut Cursor<'_>) -> Result<(Option<VarInit>, usize), ReadFault>
+        ensures gives { Gives (height_view (option_map var_init_tree)) (rules.within cap self.now.room rules.var_value cursor.old) result cursor.new }
+        ensures low { IfOk result (λ x. x.1 ≤ self.now.room) }
     {
-        if self.eat(cursor, Fixed::Word(Word::New))? {
+        if cursor.eat(Fixed::Word(Word::New)) {
             let parens = self.parens(cursor)?;
             Ok((Some(VarInit::New { parens }), 0))
         } else {
@@ -78,11 +66,11 @@ impl Reader {
     }
 
     #[tactic(auto, unfolding(crate::specs::DeclRules::var_initial))]
-    fn var_initial(self, cursor: &mut Cursor<'_>) -> Result<(Option<VarInit>, usize), ReadFault>
-        ensures gives { Gives (tall_by (option_map var_init_tree)) (rules.within cap self.room rules.var_initial cursor.old) result cursor.new }
-        ensures low { IfOk result (λ x. x.1 ≤ self.room) }
+    fn var_initial(&self, cursor: &mut Cursor<'_>) -> Result<(Option<VarInit>, usize), ReadFault>
+        ensures gives { Gives (height_view (option_map var_init_tree)) (rules.within cap self.now.room rules.var_initial cursor.old) result cursor.new }
+        ensures low { IfOk result (λ x. x.1 ≤ self.now.room) }
     {
-        if self.eat(cursor, Fixed::Mark(Mark::Assign))? {
+        if cursor.eat(Fixed::Mark(Mark::Assign)) {
             self.var_value(cursor)
         } else {
             Ok((None, 0))
@@ -90,21 +78,21 @@ impl Reader {
     }
 
     #[tactic(auto, unfolding(crate::specs::DeclRules::var_declarator))]
-    fn var_declarator(self, cursor: &mut Cursor<'_>) -> Result<(VarDeclarator, usize), ReadFault>
-        ensures gives { Gives (tall_by var_declarator_tree) (rules.within cap self.room rules.var_declarator cursor.old) result cursor.new }
-        ensures low { IfOk result (λ x. x.1 ≤ self.room) }
+    fn var_declarator(&self, cursor: &mut Cursor<'_>) -> Result<(VarDeclarator, usize), ReadFault>
+        ensures gives { Gives (height_view var_declarator_tree) (rules.within cap self.now.room rules.var_declarator cursor.old) result cursor.new }
+        ensures low { IfOk result (λ x. x.1 ≤ self.now.room) }
     {
-        let name = self.name(cursor)?;
-        let (first, height) = self.var_initial(cursor)?;
-        Ok((VarDeclarator { name, first }, height))
+        let name = cursor.name()?;
+        let (init, height) = self.var_initial(cursor)?;
+        Ok((VarDeclarator { name, init }, height))
     }
 
     fn var_declarators(
-        self,
+        &self,
         cursor: &mut Cursor<'_>,
     ) -> Result<(Items<VarDeclarator>, usize), ReadFault>
-        ensures gives { Gives (talls_by var_declarator_tree) (rules.within cap self.room (lists.listing rules.var_declarator) cursor.old) result cursor.new }
-        ensures low { IfOk result (λ x. x.1 ≤ self.room) }
+        ensures gives { Gives (heights_view var_declarator_tree) (rules.within cap self.now.room (lists.listing rules.var_declarator) cursor.old) result cursor.new }
+        ensures low { IfOk result (λ x. x.1 ≤ self.now.room) }
     {
         listing(self.alloc, cursor, |cursor| self.var_declarator(cursor))
     }
@@ -112,24 +100,24 @@ impl Reader {
     // Behind the type.
     #[tactic(auto, unfolding(crate::specs::DeclRules::vars_on))]
     fn vars_on(
-        self,
+        &self,
         cursor: &mut Cursor<'_>,
         kind: DataType,
         kind_height: usize,
     ) -> Result<(VarDecl, usize), ReadFault>
-        requires { kind_height ≤ self.room }
-        ensures gives { Gives (tall_by var_tree) (rules.within cap self.room (rules.vars_on (tall_by type_tree (kind, kind_height))) cursor.old) result cursor.new }
-        ensures low { IfOk result (λ x. x.1 ≤ self.room) }
+        requires { kind_height ≤ self.now.room }
+        ensures gives { Gives (height_view var_tree) (rules.within cap self.now.room (rules.vars_on (height_view type_tree (kind, kind_height))) cursor.old) result cursor.new }
+        ensures low { IfOk result (λ x. x.1 ≤ self.now.room) }
     {
         let (vars, vars_height) = self.var_declarators(cursor)?;
-        self.expect(cursor, Fixed::Mark(Mark::Semicolon))?;
+        cursor.expect(Fixed::Mark(Mark::Semicolon))?;
         Ok((VarDecl { kind, vars }, kind_height.max(vars_height)))
     }
 
     #[tactic(auto, unfolding(crate::specs::DeclRules::var_in))]
-    fn var(self, cursor: &mut Cursor<'_>) -> Result<(VarDecl, usize), ReadFault>
-        ensures gives { Gives (tall_by var_tree) (rules.within cap self.room rules.var_in cursor.old) result cursor.new }
-        ensures low { IfOk result (λ x. x.1 ≤ self.room) }
+    fn var(&self, cursor: &mut Cursor<'_>) -> Result<(VarDecl, usize), ReadFault>
+        ensures gives { Gives (height_view var_tree) (rules.within cap self.now.room rules.var_in cursor.old) result cursor.new }
+        ensures low { IfOk result (λ x. x.1 ≤ self.now.room) }
     {
         let (kind, height) = self.data_type(cursor)?;
         self.vars_on(cursor, kind, height)

@@ -8,8 +8,8 @@ use Rattle.svr_token.specs.declared.NameKind.{NameKind}
 use Rattle.svr_tree.specs.Tokens.{Tok, Entry, Name, Any, FitEach, mark}
 use Rattle.svr_tree.specs.ItemTree.{ItemTree, items_of}
 use Rattle.svr_tree.specs.ItemGrammar.{items_spelling, AreBlockItems, items_height}
+use Rattle.svr_reader.specs.Outcomes.{lexeme_at}
 use Rattle.svr_reader.specs.declared.fixed.Fixed.TheVariants as f
-use Rattle.svr_reader.specs.Program.{lexeme_at}
 use Rattle.svr_reader.specs.Steps.{is_fixed}
 use Rattle.svr_reader.proofs.Steps.{lexeme_of}
 use Rattle.svr_expr_laws.proofs.LiveParts.{Closes}

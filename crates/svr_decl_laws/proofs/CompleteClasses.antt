@@ -13,29 +13,30 @@ use Rattle.svr_tree.specs.ItemGrammar.{items_spelling, AreBlockItems, items_heig
 use Rattle.svr_tree.specs.ExprGrammar.{parens_spelling, expr_spelling, IsExpr, expr_height}
 use Rattle.svr_tree.specs.DeclTree.{named, PropertyTree, BlockTree, ClassItemTree, property, block, VarInitTree, value, new, VarDeclaratorTree, VarTree}
 use Rattle.svr_tree.specs.DeclGrammar.{type_spelling, declarator_spelling, property_spelling, class_item_spelling, extends_spelling, label_spelling, class_spelling, rand_spelling, var_init_spelling, var_declarator_spelling, var_spelling, IsClassItem, IsClass, IsVarInit, IsVarDeclarator, IsVar, greatest, type_height, class_item_height, class_height, var_init_height, var_declarator_height, var_height}
+use Rattle.svr_reader.specs.Outcomes.{Parser, lexeme_at}
 use Rattle.svr_reader.specs.declared.fixed.Fixed.{Fixed}
 use Rattle.svr_reader.specs.declared.fixed.Fixed.TheVariants as f
-use Rattle.svr_reader.specs.Program.{Parser, lexeme_at, run}
-use Rattle.svr_reader.specs.Steps.{same_word, same_mark, fixed_lexeme, is_fixed, sees, expect}
-use Rattle.svr_reader.specs.Lists.{listing, until}
-use Rattle.svr_reader.proofs.Steps.{bind_is, takes_parts, takes_less, expects, led_no, led_yes, led_takes}
+use Rattle.svr_reader.specs.Program.{run, expect}
+use Rattle.svr_reader.specs.Steps.{same_word, same_mark, fixed_lexeme, is_fixed, sees}
+use Rattle.svr_reader.specs.Lists.{listing, until, name, parens, name_behind}
+use Rattle.svr_reader.proofs.Steps.{bind_is, takes_parts, takes_less, expects, led_no, led_yes, led_takes, name_complete}
 use Rattle.svr_reader.proofs.Live.{AnyToken}
 use Rattle.svr_reader.proofs.Layers.{IsComplete}
 use Rattle.svr_reader.proofs.Lists.{listing_complete, until_complete}
-use Rattle.svr_expr.specs.ExprRules.{name, starts}
+use Rattle.svr_expr.specs.ExprRules.{expr_starts}
 use Rattle.svr_expr_laws.proofs.Trees.{begins}
-use Rattle.svr_expr_laws.proofs.Names.{name_complete}
 use Rattle.svr_expr_laws.proofs.CompleteParts.{Before}
-use Rattle.svr_decl.specs.DeclRules.{Part, an_expression, the_block_items, Ans, Reader, data_type, property_in, block_on, class_item, name_behind, class_in, parens, var_value, var_initial, var_declarator, vars_on, var_in}
+use Rattle.svr_decl.specs.DeclRules.{Part, an_expression, the_block_items, Ans, Rule, data_type, property_in, block_on, class_item, class_in, var_value, var_initial, var_declarator, vars_on, var_in}
+use Rattle.svr_decl_laws.proofs.Optional.{extends_is, label_is, name_behind_complete, parens_complete}
 use Rattle.svr_decl_laws.proofs.Before.{before, before_name, AfterType, EndsInitial, EndsDeclarators, NotExtends, NotColon, block_text, AreOfBlock, block_height}
 use Rattle.svr_decl_laws.proofs.SoundMembers.{property_height}
-use Rattle.svr_decl_laws.proofs.SoundClasses.{behind_spelling, extends_is, label_is, vars_spelling, IsVarOf}
+use Rattle.svr_decl_laws.proofs.SoundClasses.{vars_spelling, IsVarOf}
 use Rattle.svr_decl_laws.proofs.CompleteTypes.{type_first, type_complete}
 use Rattle.svr_decl_laws.proofs.CompleteMembers.{comma_ends, semicolon_ends, of_type, property_complete}
 
 -- ---- first tokens
 
-no_new : (q : Option Lexeme) → starts q ≡ true → is_fixed (f.Word w.New) q ≡ false
+no_new : (q : Option Lexeme) → expr_starts q ≡ true → is_fixed (f.Word w.New) q ≡ false
 unfolding same_word
 no_new (Some (lexeme.Word w.New)) h = absurd (cc)
 no_new _ h = refl
@@ -89,24 +90,10 @@ items_list_is no_items = refl
 items_list_is (more_items x xs) = ap (λ v. more_items x v) (items_list_is xs)
 
 module _ (most r : ℕ) (sub : (k : Part) → Parser (Ans k)) (ok : IsComplete expr_spelling IsExpr expr_height most r (Before 1) (sub an_expression)) where
-  abbrev R : {A : Type 0} → Reader A → Parser A
+  abbrev R : {A : Type 0} → Rule A → Parser A
   R p = run most r sub p
 
-  name_behind_complete : (k : Fixed) (o : Option ℕ) (i rest : List Tok) → FitEach i (behind_spelling k o) rest → sees k rest ≡ false → R (name_behind k) i ≡ Ok (o, rest)
-  unfolding name_behind
-  name_behind_complete k None i rest h c = led_no most r sub k _ _ i (ap (sees k) h ∙ c) ∙ ap (λ z. Ok (None, z)) h
-  name_behind_complete k (Some n) i rest h c =
-      let a = takes_parts i (Any (fixed_lexeme k) ∷ []) (Name n ∷ []) rest h in
-      led_takes most r sub k _ _ i a.0 a.1 ∙ bind_is (R name a.0) _ n rest _ (name_complete most r sub n a.0 rest a.2) refl
-
   -- ---- variables
-
-  parens_complete : (b : Bool) (i rest : List Tok) → FitEach i (parens_spelling b) rest → EndsInitial (lexeme_at rest) → R parens i ≡ Ok (b, rest)
-  unfolding parens
-  parens_complete false i rest h c = led_no most r sub (f.Mark m.OpenParen) _ _ i (ap (sees (f.Mark m.OpenParen)) h ∙ no_parens (lexeme_at rest) c) ∙ ap (λ z. Ok (false, z)) h
-  parens_complete true i rest h c =
-      let a = takes_parts i (mark m.OpenParen ∷ []) (mark m.CloseParen ∷ []) rest h in
-      led_takes most r sub (f.Mark m.OpenParen) _ _ i a.0 a.1 ∙ bind_is (R (expect (f.Mark m.CloseParen)) a.0) _ tt rest _ (expects most r sub (f.Mark m.CloseParen) a.0 rest a.2) refl
 
   var_initial_complete : IsComplete var_init_spelling IsVarInit var_init_height most r EndsInitial (R var_initial)
   unfolding var_initial var_value
@@ -123,16 +110,16 @@ module _ (most r : ℕ) (sub : (k : Part) → Parser (Ans k)) (ok : IsComplete e
           let a = takes_parts i (word w.New ∷ []) (parens_spelling b) rest h.1 in
           led_yes most r sub (f.Mark m.Assign) _ _ t i h.0
           ∙ led_takes most r sub (f.Word w.New) _ _ i a.0 a.1
-          ∙ bind_is (R parens a.0) _ b rest _ (parens_complete b a.0 rest a.2 c) refl
+          ∙ bind_is (R parens a.0) _ b rest _ (parens_complete most r sub b a.0 rest a.2 (no_parens (lexeme_at rest) c)) refl
 
   var_declarator_complete : IsComplete var_declarator_spelling IsVarDeclarator var_declarator_height most r EndsInitial (R var_declarator)
   unfolding var_declarator
   var_declarator_complete = record {
     at = λ d i rest few l low h c.
-        let a = takes_parts i (Name d.name ∷ []) (var_init_spelling d.first) rest h in
+        let a = takes_parts i (Name d.name ∷ []) (var_init_spelling d.init) rest h in
         let less = takes_less i (Name d.name ∷ []) a.0 a.1 in
         bind_is (R name i) _ d.name a.0 _ (name_complete most r sub d.name i a.0 a.1)
-        (bind_is (R var_initial a.0) _ (d.first, var_init_height d.first) rest _ (var_initial_complete.at d.first a.0 rest (omega (arith, few, less)) l low a.2 c) refl);
+        (bind_is (R var_initial a.0) _ (d.init, var_init_height d.init) rest _ (var_initial_complete.at d.init a.0 rest (omega (arith, few, less)) l low a.2 c) refl);
   }
 
   var_declarators_complete : IsComplete (listed var_declarator_spelling) (OneOrMore IsVarDeclarator) (greatest var_declarator_height) most r EndsDeclarators (R (listing var_declarator))
@@ -194,7 +181,7 @@ module _ (most r : ℕ) (sub : (k : Part) → Parser (Ans k)) (ok : IsComplete e
             ∙ bind_is (R block_on i) _ (b, items_height b.items) rest _ (block_complete b i rest (omega (arith, few)) l low h.1) refl
 
     abbrev items_text : List ClassItemTree → List Entry
-    items_text xs = tokens.run class_item_spelling xs ++ word w.EndClass ∷ []
+    items_text xs = tokens.each_spelling class_item_spelling xs ++ word w.EndClass ∷ []
 
     class_items_complete : IsComplete items_text (Each IsClassItem) (greatest class_item_height) most r AnyToken (R (until (f.Word w.EndClass) class_item))
     class_items_complete = until_complete most r sub class_item class_item_spelling IsClassItem class_item_height (f.Word w.EndClass) r AnyToken class_item_complete class_item_long class_item_first tt
@@ -204,12 +191,12 @@ module _ (most r : ℕ) (sub : (k : Part) → Parser (Ans k)) (ok : IsComplete e
     class_in_complete = record {
       at = λ x i rest few l low h c.
           let label = label_spelling x.label in
-          let tail = tokens.run class_item_spelling x.items ++ word w.EndClass ∷ label in
+          let tail = tokens.each_spelling class_item_spelling x.items ++ word w.EndClass ∷ label in
           let a = takes_parts i (word w.Class ∷ []) (Name x.name ∷ (extends_spelling x.base ++ mark m.Semicolon ∷ tail)) rest h in
           let b = takes_parts a.0 (Name x.name ∷ []) (extends_spelling x.base ++ mark m.Semicolon ∷ tail) rest a.2 in
           let d = takes_parts b.0 (extends_spelling x.base) (mark m.Semicolon ∷ tail) rest b.2 in
           let e = takes_parts d.0 (mark m.Semicolon ∷ []) tail rest d.2 in
-          let regrouped = subst (λ es. FitEach e.0 es rest) (sym (append_assoc (tokens.run class_item_spelling x.items) (word w.EndClass ∷ []) label)) e.2 in
+          let regrouped = subst (λ es. FitEach e.0 es rest) (sym (append_assoc (tokens.each_spelling class_item_spelling x.items) (word w.EndClass ∷ []) label)) e.2 in
           let g = takes_parts e.0 (items_text x.items) label rest regrouped in
           let a1 = takes_less i (word w.Class ∷ []) a.0 a.1 in
           let a2 = takes_less a.0 (Name x.name ∷ []) b.0 b.1 in
@@ -218,8 +205,8 @@ module _ (most r : ℕ) (sub : (k : Part) → Parser (Ans k)) (ok : IsComplete e
           let z1 = takes_less g.0 label rest g.2 in
           bind_is (R (expect (f.Word w.Class)) i) _ tt a.0 _ (expects most r sub (f.Word w.Class) i a.0 a.1)
           (bind_is (R name a.0) _ x.name b.0 _ (name_complete most r sub x.name a.0 b.0 b.1)
-          (bind_is (R (name_behind (f.Word w.Extends)) b.0) _ x.base d.0 _ (name_behind_complete (f.Word w.Extends) x.base b.0 d.0 (subst (λ es. FitEach b.0 es d.0) (sym (extends_is x.base)) d.1) (before NotExtends (lexeme.Mark m.Semicolon) refl d.0 rest tail d.2))
+          (bind_is (R (name_behind (f.Word w.Extends)) b.0) _ x.base d.0 _ (name_behind_complete most r sub (f.Word w.Extends) x.base b.0 d.0 (subst (λ es. FitEach b.0 es d.0) (sym (extends_is x.base)) d.1) (before NotExtends (lexeme.Mark m.Semicolon) refl d.0 rest tail d.2))
           (bind_is (R (expect (f.Mark m.Semicolon)) d.0) _ tt e.0 _ (expects most r sub (f.Mark m.Semicolon) d.0 e.0 e.1)
           (bind_is (R (until (f.Word w.EndClass) class_item) e.0) _ (x.items, class_height x) g.0 _ (class_items_complete.at x.items e.0 g.0 (omega (arith, few, a1, a2, a3, a4, z1)) l low g.1 tt)
-          (bind_is (R (name_behind (f.Mark m.Colon)) g.0) _ x.label rest _ (name_behind_complete (f.Mark m.Colon) x.label g.0 rest (subst (λ es. FitEach g.0 es rest) (sym (label_is x.label)) g.2) c) refl)))));
+          (bind_is (R (name_behind (f.Mark m.Colon)) g.0) _ x.label rest _ (name_behind_complete most r sub (f.Mark m.Colon) x.label g.0 rest (subst (λ es. FitEach g.0 es rest) (sym (label_is x.label)) g.2) c) refl)))));
     }

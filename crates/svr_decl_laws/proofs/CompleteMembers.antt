@@ -1,30 +1,30 @@
 -- What the grammar has as a typedef or a property is read there.
-use Rattle.std.proofs.Common.{◌≡◌, ℕ, ◌+◌, ◌≤◌, max, true, false, List, [], ◌∷◌, ◌++◌, length, Option, Some, None, Ok, refl, ◌∙◌, ap, arith}
+use Rattle.std.proofs.Common.{◌≡◌, ℕ, ◌+◌, ◌≤◌, max, true, false, List, [], ◌∷◌, ◌++◌, length, Option, Some, None, Ok, refl, ◌∙◌, ap, subst, arith}
 use Rattle.svr_token.specs.declared.Lexeme.{Lexeme}
 use Rattle.svr_token.specs.declared.Lexeme.TheVariants as lexeme
 use Rattle.svr_token.specs.declared.Word.TheVariants as w
 use Rattle.svr_token.specs.declared.Mark.TheVariants as m
 use Rattle.svr_operator.specs.declared.Rand.{Rand}
 use Rattle.svr_operator.specs.declared.Rand.TheVariants as rand
-use Rattle.svr_tree.specs.Tokens.{Tok, Entry, Name, FitEach, word, mark, listed, OneOrMore}
+use Rattle.svr_tree.specs.Tokens.{Tok, Entry, Name, FitEach, word, mark, each_spelling, listed, OneOrMore}
 use Rattle.svr_tree.specs.ExprTree.{ExprTree}
 use Rattle.svr_tree.specs.ExprGrammar.{expr_spelling, IsExpr, expr_height}
 use Rattle.svr_tree.specs.DeclTree.{EnumTree, DefinitionTree, enum, plain, DimensionTree, dynamic, queue, size, bounds, DeclaratorTree, PropertyTree}
-use Rattle.svr_tree.specs.DeclGrammar.{type_spelling, initial_spelling, member_spelling, base_spelling, definition_spelling, typedef_spelling, dimension_spelling, declarator_spelling, rand_spelling, property_spelling, IsEnumMember, IsDefinition, IsTypedef, IsDimension, IsDeclarator, IsProperty, greatest, optional_height, member_height, base_height, integer_height, typedef_height, dimension_height, declarator_height, type_height}
+use Rattle.svr_tree.specs.DeclGrammar.{type_spelling, initial_spelling, member_spelling, base_spelling, definition_spelling, typedef_spelling, dimension_spelling, declarator_spelling, rand_spelling, property_spelling, IsEnumMember, IsDefinition, IsTypedef, IsDimension, AreDimensions, IsDeclarator, IsProperty, greatest, optional_height, member_height, base_height, integer_height, typedef_height, dimension_height, declarator_height, type_height}
+use Rattle.svr_reader.specs.Outcomes.{Parser, lexeme_at}
 use Rattle.svr_reader.specs.declared.fixed.Fixed.TheVariants as f
-use Rattle.svr_reader.specs.Program.{Parser, lexeme_at, run}
-use Rattle.svr_reader.specs.Steps.{same_word, same_mark, is_fixed, sees, expect}
-use Rattle.svr_reader.specs.Lists.{listing}
-use Rattle.svr_reader.proofs.Steps.{bind_is, takes_parts, takes_less, lexeme_of, expects, led_no, led_yes, led_takes}
+use Rattle.svr_reader.specs.Program.{run, expect}
+use Rattle.svr_reader.specs.Steps.{same_word, same_mark, is_fixed, sees}
+use Rattle.svr_reader.specs.Lists.{listing, name}
+use Rattle.svr_reader.proofs.Steps.{bind_is, takes_parts, takes_less, lexeme_of, expects, led_no, led_yes, led_takes, name_complete}
 use Rattle.svr_reader.proofs.Live.{AnyToken}
 use Rattle.svr_reader.proofs.Layers.{IsComplete}
 use Rattle.svr_reader.proofs.Lists.{listing_complete}
-use Rattle.svr_expr.specs.ExprRules.{name, starts}
+use Rattle.svr_expr.specs.ExprRules.{expr_starts}
 use Rattle.svr_expr_laws.proofs.Trees.{begins}
-use Rattle.svr_expr_laws.proofs.Names.{name_complete}
 use Rattle.svr_expr_laws.proofs.CompleteParts.{Before, before_mark}
 use Rattle.svr_expr_laws.proofs.LiveParts.{closes_select}
-use Rattle.svr_decl.specs.DeclRules.{Part, an_expression, Ans, Reader, integer_type, starts_type, starts_var, data_type, initial, member, enum_base, enum_on, plain_definition, definition, typedef_in, sized, dimension_on, dimension, declarator, property_on, property_in}
+use Rattle.svr_decl.specs.DeclRules.{Part, an_expression, Ans, Rule, integer_type, starts_type, starts_var, data_type, initial, member, enum_base, enum_on, plain_definition, definition, typedef_in, size_or_bounds, dimension, dimensions_on, dimensions, declarator, property_on, property_in}
 use Rattle.svr_decl_laws.proofs.Before.{before, before_name, AfterType, AfterBase, EndsInitial, EndsDeclarators, NotBracket}
 use Rattle.svr_decl_laws.proofs.SoundMembers.{property_height, type_decl_height}
 use Rattle.svr_decl_laws.proofs.CompleteTypes.{integer_first, type_first, integer_complete, type_complete, initial_complete, base_complete}
@@ -68,7 +68,7 @@ record OfExpr (q : Option Lexeme) : Type 0 where
   no_close : is_fixed (f.Mark m.CloseBracket) q ≡ false
   no_dollar : is_fixed (f.Mark m.Dollar) q ≡ false
 
-of_expr : (q : Option Lexeme) → starts q ≡ true → OfExpr q
+of_expr : (q : Option Lexeme) → expr_starts q ≡ true → OfExpr q
 unfolding same_mark
 of_expr (Some (lexeme.Mark m.CloseBracket)) h = absurd (cc)
 of_expr (Some (lexeme.Mark m.Dollar)) h = absurd (cc)
@@ -85,7 +85,7 @@ declarators_first [] i rest es o h = absurd o
 declarators_first (d ∷ ds) i rest es o h = let a = takes_parts i (listed declarator_spelling (d ∷ ds)) es rest h in before_name AfterType (λ k. refl) d.name i a.0 _ a.1
 
 module _ (most r : ℕ) (sub : (k : Part) → Parser (Ans k)) (ok : IsComplete expr_spelling IsExpr expr_height most r (Before 1) (sub an_expression)) where
-  abbrev R : {A : Type 0} → Reader A → Parser A
+  abbrev R : {A : Type 0} → Rule A → Parser A
   R p = run most r sub p
 
   -- ---- typedefs
@@ -148,23 +148,23 @@ module _ (most r : ℕ) (sub : (k : Part) → Parser (Ans k)) (ok : IsComplete e
 
   -- ---- dimensions
 
-  sized_from : (x : ExprTree) (i mid : List Tok) → IsExpr x → FitEach i (expr_spelling x) mid → R dimension_on i ≡ R sized i
-  unfolding dimension_on
-  sized_from x i mid l h = let o = of_expr (lexeme_at i) (begins x i mid l h).first in led_no most r sub (f.Mark m.CloseBracket) _ _ i o.no_close ∙ led_no most r sub (f.Mark m.Dollar) _ _ i o.no_dollar
+  size_or_bounds_from : (x : ExprTree) (i mid : List Tok) → IsExpr x → FitEach i (expr_spelling x) mid → R dimension i ≡ R size_or_bounds i
+  unfolding dimension
+  size_or_bounds_from x i mid l h = let o = of_expr (lexeme_at i) (begins x i mid l h).first in led_no most r sub (f.Mark m.CloseBracket) _ _ i o.no_close ∙ led_no most r sub (f.Mark m.Dollar) _ _ i o.no_dollar
 
-  size_complete : (x : ExprTree) (i rest : List Tok) → length i ≤ most + length rest → IsExpr x → expr_height x ≤ r → FitEach i (expr_spelling x ++ mark m.CloseBracket ∷ []) rest → R dimension_on i ≡ Ok ((Some (size x), expr_height x), rest)
-  unfolding sized same_mark
+  size_complete : (x : ExprTree) (i rest : List Tok) → length i ≤ most + length rest → IsExpr x → expr_height x ≤ r → FitEach i (expr_spelling x ++ mark m.CloseBracket ∷ []) rest → R dimension i ≡ Ok ((size x, expr_height x), rest)
+  unfolding size_or_bounds same_mark
   size_complete x i rest few l low h =
       let a = takes_parts i (expr_spelling x) (mark m.CloseBracket ∷ []) rest h in
       let z1 = takes_less a.0 (mark m.CloseBracket ∷ []) rest a.2 in
-      sized_from x i a.0 l a.1
+      size_or_bounds_from x i a.0 l a.1
       ∙ bind_is (sub an_expression i) _ (x, expr_height x) a.0 _ (ok.at x i a.0 (omega (arith, few, z1)) l low a.1 (before_mark m.CloseBracket refl a.0 rest [] a.2))
       (led_no most r sub (f.Mark m.Colon) _ _ a.0 (before (λ q. is_fixed (f.Mark m.Colon) q ≡ false) (lexeme.Mark m.CloseBracket) refl a.0 rest [] a.2)
       ∙ bind_is (R (expect (f.Mark m.CloseBracket)) a.0) _ tt rest _ (expects most r sub (f.Mark m.CloseBracket) a.0 rest a.2) refl)
 
   bounds_complete : (x y : ExprTree) (i rest : List Tok) → length i ≤ most + length rest → IsExpr x → IsExpr y → expr_height x ≤ r → expr_height y ≤ r → FitEach i (expr_spelling x ++ mark m.Colon ∷ (expr_spelling y ++ mark m.CloseBracket ∷ [])) rest
-      → R dimension_on i ≡ Ok ((Some (bounds x y), max (expr_height x) (expr_height y)), rest)
-  unfolding sized
+      → R dimension i ≡ Ok ((bounds x y, max (expr_height x) (expr_height y)), rest)
+  unfolding size_or_bounds
   bounds_complete x y i rest few l l2 low low2 h =
       let es = expr_spelling y ++ mark m.CloseBracket ∷ [] in
       let a = takes_parts i (expr_spelling x) (mark m.Colon ∷ es) rest h in
@@ -174,40 +174,70 @@ module _ (most r : ℕ) (sub : (k : Part) → Parser (Ans k)) (ok : IsComplete e
       let a2 = takes_less a.0 (mark m.Colon ∷ []) b.0 b.1 in
       let z1 = takes_less a.0 (mark m.Colon ∷ es) rest a.2 in
       let z2 = takes_less e.0 (mark m.CloseBracket ∷ []) rest e.2 in
-      sized_from x i a.0 l a.1
+      size_or_bounds_from x i a.0 l a.1
       ∙ bind_is (sub an_expression i) _ (x, expr_height x) a.0 _ (ok.at x i a.0 (omega (arith, few, z1)) l low a.1 (before_mark m.Colon refl a.0 rest es a.2))
       (led_takes most r sub (f.Mark m.Colon) _ _ a.0 b.0 b.1
       ∙ bind_is (sub an_expression b.0) _ (y, expr_height y) e.0 _ (ok.at y b.0 e.0 (omega (arith, few, a1, a2, z2)) l2 low2 e.1 (before_mark m.CloseBracket refl e.0 rest [] e.2))
       (bind_is (R (expect (f.Mark m.CloseBracket)) e.0) _ tt rest _ (expects most r sub (f.Mark m.CloseBracket) e.0 rest e.2) refl))
 
-  dynamic_complete : (i rest : List Tok) → FitEach i (mark m.CloseBracket ∷ []) rest → R dimension_on i ≡ Ok ((Some dynamic, 0), rest)
-  unfolding dimension_on
+  dynamic_complete : (i rest : List Tok) → FitEach i (mark m.CloseBracket ∷ []) rest → R dimension i ≡ Ok ((dynamic, 0), rest)
+  unfolding dimension
   dynamic_complete i rest h = led_takes most r sub (f.Mark m.CloseBracket) _ _ i rest h
 
-  queue_complete : (i rest : List Tok) → FitEach i (mark m.Dollar ∷ (mark m.CloseBracket ∷ [])) rest → R dimension_on i ≡ Ok ((Some queue, 0), rest)
-  unfolding dimension_on same_mark
+  queue_complete : (i rest : List Tok) → FitEach i (mark m.Dollar ∷ (mark m.CloseBracket ∷ [])) rest → R dimension i ≡ Ok ((queue, 0), rest)
+  unfolding dimension same_mark
   queue_complete i rest h =
       let a = takes_parts i (mark m.Dollar ∷ []) (mark m.CloseBracket ∷ []) rest h in
       led_no most r sub (f.Mark m.CloseBracket) _ _ i (before (λ q. is_fixed (f.Mark m.CloseBracket) q ≡ false) (lexeme.Mark m.Dollar) refl i rest (mark m.CloseBracket ∷ []) h)
       ∙ led_takes most r sub (f.Mark m.Dollar) _ _ i a.0 a.1 ∙ bind_is (R (expect (f.Mark m.CloseBracket)) a.0) _ tt rest _ (expects most r sub (f.Mark m.CloseBracket) a.0 rest a.2) refl
 
-  dimension_complete : IsComplete dimension_spelling IsDimension dimension_height most r NotBracket (R dimension)
-  unfolding dimension
-  dimension_complete = record { at = by }
+  -- behind its bracket
+  dimension_complete : (x : DimensionTree) (i rest : List Tok) → length i ≤ most + length rest → IsDimension x → dimension_height x ≤ r → FitEach i (dimension_spelling x) rest
+      → (mid : List Tok) × FitEach i (mark m.OpenBracket ∷ []) mid × (R dimension mid ≡ Ok ((x, dimension_height x), rest))
+  dimension_complete x [] rest few l low h = absurd (none x h)
     where
-      by : (x : Option DimensionTree) (i rest : List Tok) → length i ≤ most + length rest → IsDimension x → dimension_height x ≤ r → FitEach i (dimension_spelling x) rest → NotBracket (lexeme_at rest) → R dimension i ≡ Ok ((x, dimension_height x), rest)
-      by None i rest few l low h c = led_no most r sub (f.Mark m.OpenBracket) _ _ i (ap (sees (f.Mark m.OpenBracket)) h ∙ c) ∙ ap (λ z. Ok ((None, 0), z)) h
-      by (Some d) [] rest few l low h c = absurd (none d rest h)
-        where
-          none : (d : DimensionTree) (rest : List Tok) → FitEach [] (dimension_spelling (Some d)) rest → ⊥
-          none dynamic rest h = h
-          none queue rest h = h
-          none (size x) rest h = h
-          none (bounds x y) rest h = h
-      by (Some dynamic) (t ∷ i) rest few l low h c = led_yes most r sub (f.Mark m.OpenBracket) _ _ t i h.0 ∙ dynamic_complete i rest h.1
-      by (Some queue) (t ∷ i) rest few l low h c = led_yes most r sub (f.Mark m.OpenBracket) _ _ t i h.0 ∙ queue_complete i rest h.1
-      by (Some (size x)) (t ∷ i) rest few l low h c = led_yes most r sub (f.Mark m.OpenBracket) _ _ t i h.0 ∙ size_complete x i rest (omega (arith, few)) l low h.1
-      by (Some (bounds x y)) (t ∷ i) rest few l low h c = led_yes most r sub (f.Mark m.OpenBracket) _ _ t i h.0 ∙ bounds_complete x y i rest (omega (arith, few)) l.0 l.1 (omega (arith, low)) (omega (arith, low)) h.1
+      none : (x : DimensionTree) → FitEach [] (dimension_spelling x) rest → ⊥
+      none dynamic h = h
+      none queue h = h
+      none (size x) h = h
+      none (bounds x y) h = h
+  dimension_complete dynamic (t ∷ i) rest few l low h = (i, (h.0, refl), dynamic_complete i rest h.1)
+  dimension_complete queue (t ∷ i) rest few l low h = (i, (h.0, refl), queue_complete i rest h.1)
+  dimension_complete (size x) (t ∷ i) rest few l low h = (i, (h.0, refl), size_complete x i rest (omega (arith, few)) l low h.1)
+  dimension_complete (bounds x y) (t ∷ i) rest few l low h = (i, (h.0, refl), bounds_complete x y i rest (omega (arith, few)) l.0 l.1 (omega (arith, low)) (omega (arith, low)) h.1)
+
+  single_dimension : (x : DimensionTree) (rest : List Tok) → NotBracket (lexeme_at rest) → R (dimensions_on (x, dimension_height x)) rest ≡ Ok ((x ∷ [], greatest dimension_height (x ∷ [])), rest)
+  unfolding dimensions_on
+  single_dimension x rest c = let tallest : dimension_height x ≡ max (dimension_height x) 0 = omega arith in led_no most r sub (f.Mark m.OpenBracket) _ _ rest c ∙ ap (λ v. Ok ((x ∷ [], v), rest)) tallest
+
+  two_dimensions : (x y : DimensionTree) (i rest : List Tok) → length i ≤ most + length rest → IsDimension y → dimension_height y ≤ r → FitEach i (dimension_spelling y ++ []) rest
+      → R (dimensions_on (x, dimension_height x)) i ≡ Ok ((x ∷ (y ∷ []), greatest dimension_height (x ∷ (y ∷ []))), rest)
+  unfolding dimensions_on
+  two_dimensions x y i rest few l low h =
+      let a = takes_parts i (dimension_spelling y) [] rest h in
+      let d = dimension_complete y i rest few l low (subst (λ z. FitEach i (dimension_spelling y) z) a.2 a.1) in
+      let tallest : max (dimension_height x) (dimension_height y) ≡ max (dimension_height x) (max (dimension_height y) 0) = omega arith in
+      led_takes most r sub (f.Mark m.OpenBracket) _ _ i d.0 d.1 ∙ bind_is (R dimension d.0) _ (y, dimension_height y) rest _ d.2 (ap (λ v. Ok ((x ∷ (y ∷ []), v), rest)) tallest)
+
+  dimensions_complete : IsComplete (each_spelling dimension_spelling) AreDimensions (greatest dimension_height) most r NotBracket (R dimensions)
+  unfolding dimensions
+  dimensions_complete = record { at = by }
+    where
+      by : (xs : List DimensionTree) (i rest : List Tok) → length i ≤ most + length rest → AreDimensions xs → greatest dimension_height xs ≤ r → FitEach i (each_spelling dimension_spelling xs) rest → NotBracket (lexeme_at rest)
+          → R dimensions i ≡ Ok ((xs, greatest dimension_height xs), rest)
+      by [] i rest few l low h c = led_no most r sub (f.Mark m.OpenBracket) _ _ i (ap (sees (f.Mark m.OpenBracket)) h ∙ c) ∙ ap (λ z. Ok (([], 0), z)) h
+      by (x ∷ []) i rest few l low h c =
+          let a = takes_parts i (dimension_spelling x) [] rest h in
+          let d = dimension_complete x i rest few l.0.0 (omega (arith, low)) (subst (λ z. FitEach i (dimension_spelling x) z) a.2 a.1) in
+          led_takes most r sub (f.Mark m.OpenBracket) _ _ i d.0 d.1 ∙ bind_is (R dimension d.0) _ (x, dimension_height x) rest _ d.2 (single_dimension x rest c)
+      by (x ∷ (y ∷ [])) i rest few l low h c =
+          let a = takes_parts i (dimension_spelling x) (dimension_spelling y ++ []) rest h in
+          let less = takes_less i (dimension_spelling x) a.0 a.1 in
+          let less2 = takes_less a.0 (dimension_spelling y ++ []) rest a.2 in
+          let d = dimension_complete x i a.0 (omega (arith, few, less2)) l.0.0 (omega (arith, low)) a.1 in
+          led_takes most r sub (f.Mark m.OpenBracket) _ _ i d.0 d.1
+          ∙ bind_is (R dimension d.0) _ (x, dimension_height x) a.0 _ d.2 (two_dimensions x y a.0 rest (omega (arith, few, less)) l.0.1.0 (omega (arith, low)) a.2)
+      by (x ∷ (y ∷ (z ∷ zs))) i rest few l low h c = absurd (omega (arith, l.1))
 
   -- ---- properties
 
@@ -215,14 +245,14 @@ module _ (most r : ℕ) (sub : (k : Part) → Parser (Ans k)) (ok : IsComplete e
   unfolding declarator
   declarator_complete = record {
     at = λ d i rest few l low h c.
-        let a = takes_parts i (Name d.name ∷ []) (dimension_spelling d.dim ++ initial_spelling d.first) rest h in
-        let b = takes_parts a.0 (dimension_spelling d.dim) (initial_spelling d.first) rest a.2 in
+        let a = takes_parts i (Name d.name ∷ []) (each_spelling dimension_spelling d.dims ++ initial_spelling d.value) rest h in
+        let b = takes_parts a.0 (each_spelling dimension_spelling d.dims) (initial_spelling d.value) rest a.2 in
         let a1 = takes_less i (Name d.name ∷ []) a.0 a.1 in
-        let a2 = takes_less a.0 (dimension_spelling d.dim) b.0 b.1 in
-        let z1 = takes_less b.0 (initial_spelling d.first) rest b.2 in
+        let a2 = takes_less a.0 (each_spelling dimension_spelling d.dims) b.0 b.1 in
+        let z1 = takes_less b.0 (initial_spelling d.value) rest b.2 in
         bind_is (R name i) _ d.name a.0 _ (name_complete most r sub d.name i a.0 a.1)
-        (bind_is (R dimension a.0) _ (d.dim, dimension_height d.dim) b.0 _ (dimension_complete.at d.dim a.0 b.0 (omega (arith, few, a1, z1)) l.0 (omega (arith, low)) b.1 (initial_first d.first b.0 rest b.2 c))
-        (bind_is (R initial b.0) _ (d.first, optional_height d.first) rest _ ((initial_complete most r sub ok).at d.first b.0 rest (omega (arith, few, a1, a2)) l.1 (omega (arith, low)) b.2 c) refl));
+        (bind_is (R dimensions a.0) _ (d.dims, greatest dimension_height d.dims) b.0 _ (dimensions_complete.at d.dims a.0 b.0 (omega (arith, few, a1, z1)) l.0 (omega (arith, low)) b.1 (initial_first d.value b.0 rest b.2 c))
+        (bind_is (R initial b.0) _ (d.value, optional_height d.value) rest _ ((initial_complete most r sub ok).at d.value b.0 rest (omega (arith, few, a1, a2)) l.1 (omega (arith, low)) b.2 c) refl));
   }
 
   declarators_complete : IsComplete (listed declarator_spelling) (OneOrMore IsDeclarator) (greatest declarator_height) most r EndsDeclarators (R (listing declarator))

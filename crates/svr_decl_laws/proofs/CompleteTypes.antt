@@ -15,15 +15,15 @@ use Rattle.svr_tree.specs.ExprTree.{ExprTree}
 use Rattle.svr_tree.specs.ExprGrammar.{expr_spelling, IsExpr, expr_height}
 use Rattle.svr_tree.specs.DeclTree.{PackedRangeTree, IntegerTypeTree, vector, atom, DataTypeTree, integer, named}
 use Rattle.svr_tree.specs.DeclGrammar.{vector_word, atom_word, signing_spelling, packed_spelling, integer_spelling, type_spelling, initial_spelling, base_spelling, IsOptionalExpr, IsPacked, IsInteger, IsType, IsBase, optional_height, packed_height, integer_height, type_height, base_height}
+use Rattle.svr_reader.specs.Lists.{name}
+use Rattle.svr_reader.specs.Outcomes.{Parser, lexeme_at}
 use Rattle.svr_reader.specs.declared.fixed.Fixed.TheVariants as f
-use Rattle.svr_reader.specs.Program.{bind, peek, Parser, lexeme_at, run}
-use Rattle.svr_reader.specs.Steps.{sees, expect}
-use Rattle.svr_reader.proofs.Steps.{bind_is, takes_parts, takes_less, lexeme_on, choose_true, choose_false, expects, led_no, led_yes}
+use Rattle.svr_reader.specs.Program.{bind, peek, run, expect}
+use Rattle.svr_reader.specs.Steps.{sees}
+use Rattle.svr_reader.proofs.Steps.{bind_is, takes_parts, takes_less, lexeme_on, choose_true, choose_false, expects, led_no, led_yes, name_complete}
 use Rattle.svr_reader.proofs.Layers.{IsComplete}
-use Rattle.svr_expr.specs.ExprRules.{name}
-use Rattle.svr_expr_laws.proofs.Names.{name_complete}
 use Rattle.svr_expr_laws.proofs.CompleteParts.{Before, before_mark}
-use Rattle.svr_decl.specs.DeclRules.{Part, an_expression, Ans, Reader, signing_by, signing, packed_on, packed_by, packed, vector_type, atom_type, integer_type_by, integer_type, starts_type, starts_var, written_type, named_type, data_type_by, data_type, initial, written_base, enum_base}
+use Rattle.svr_decl.specs.DeclRules.{Part, an_expression, Ans, Rule, signing_by, signing, packed_on, packed_by, packed, vector_type, atom_type, integer_type_by, integer_type, starts_type, starts_var, written_type, named_type, data_type_by, data_type, initial, written_base, enum_base}
 use Rattle.svr_decl_laws.proofs.Before.{is_sign, extends_type, AfterType, AfterBase, EndsInitial}
 
 -- ---- first tokens
@@ -75,7 +75,7 @@ module _ (most r : ℕ) (sub : (k : Part) → Parser (Ans k)) where
   packed_stops _ i c = refl
 
 module _ (most r : ℕ) (sub : (k : Part) → Parser (Ans k)) (ok : IsComplete expr_spelling IsExpr expr_height most r (Before 1) (sub an_expression)) where
-  abbrev R : {A : Type 0} → Reader A → Parser A
+  abbrev R : {A : Type 0} → Rule A → Parser A
   R p = run most r sub p
 
   -- ---- signs and ranges

@@ -8,7 +8,7 @@ use Rattle.svr_tree.specs.Tokens as tokens
 use Rattle.svr_tree.specs.Tokens.{Tok, Entry, Name, FitEach, word, mark, listed, OneOrMore}
 use Rattle.svr_tree.specs.DeclTree.{named, TypeTree, ClassTree, VarDeclaratorTree, VarTree}
 use Rattle.svr_tree.specs.DeclGrammar.{type_spelling, definition_spelling, typedef_spelling, class_item_spelling, extends_spelling, label_spelling, class_spelling, var_declarator_spelling, var_spelling, IsVarDeclarator, IsVar}
-use Rattle.svr_reader.specs.Program.{lexeme_at}
+use Rattle.svr_reader.specs.Outcomes.{lexeme_at}
 use Rattle.svr_reader.proofs.Steps.{takes_parts, lexeme_of}
 use Rattle.svr_decl.specs.DeclRules.{starts_var}
 use Rattle.svr_decl_laws.proofs.SoundClasses.{vars_spelling}
@@ -18,7 +18,7 @@ pub typedef_first : (d : TypeTree) (i rest : List Tok) → FitEach i (typedef_sp
 typedef_first d i rest h = lexeme_of i rest (lexeme.Word w.TypeDef) (definition_spelling d.definition ++ Name d.name ∷ (mark m.Semicolon ∷ [])) h
 
 pub class_first : (c : ClassTree) (i rest : List Tok) → FitEach i (class_spelling c) rest → lexeme_at i ≡ Some (lexeme.Word w.Class)
-class_first c i rest h = lexeme_of i rest (lexeme.Word w.Class) (Name c.name ∷ (extends_spelling c.base ++ mark m.Semicolon ∷ (tokens.run class_item_spelling c.items ++ word w.EndClass ∷ label_spelling c.label))) h
+class_first c i rest h = lexeme_of i rest (lexeme.Word w.Class) (Name c.name ∷ (extends_spelling c.base ++ mark m.Semicolon ∷ (tokens.each_spelling class_item_spelling c.items ++ word w.EndClass ∷ label_spelling c.label))) h
 
 -- a word of a type, or a name
 pub var_first : (v : VarTree) (i rest : List Tok) → FitEach i (var_spelling v) rest → starts_var (lexeme_at i) ≡ true

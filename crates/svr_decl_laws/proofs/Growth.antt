@@ -1,34 +1,12 @@
--- Declarations are read from the left; more room and more turns keep what was read.
+-- More room and more turns keep what was read of declarations.
 use Rattle.std.proofs.Common.{ℕ, ◌≤◌, Bool}
 use Rattle.svr_tree.specs.DeclTree.{named}
-use Rattle.svr_reader.proofs.Local.{IsLocal, local_run}
 use Rattle.svr_reader.proofs.Growth.{Grows, Rooms, grows_run}
 use Rattle.svr_reader.proofs.Layers.{IsGrowing}
-use Rattle.svr_expr_laws.proofs.Growth.{local_expr, grows_expr}
-use Rattle.svr_item_laws.proofs.Growth.{local_block_items, grows_block_items}
+use Rattle.svr_expr_laws.proofs.Growth.{grows_expr}
+use Rattle.svr_item_laws.proofs.Growth.{grows_block_items}
+use Rattle.svr_decl.proofs.Local.{local_part}
 use Rattle.svr_decl.specs.DeclRules.{Part, an_expression, the_block_items, typedef_in, class_in, vars_on, var_in, part, typedef, class, var, var_on}
-
--- ---- locality
-
-pub local_part : (most r : ℕ) (k : Part) → IsLocal (part most r k)
-local_part most r an_expression = local_expr most r 1
-local_part most r the_block_items = local_block_items most r
-
-pub local_typedef : (most r : ℕ) → IsLocal (typedef most r)
-unfolding typedef
-local_typedef most r = local_run most r (part most r) (local_part most r) typedef_in
-
-pub local_class : (most r : ℕ) → IsLocal (class most r)
-unfolding class
-local_class most r = local_run most r (part most r) (local_part most r) class_in
-
-pub local_var : (most r : ℕ) → IsLocal (var most r)
-unfolding var
-local_var most r = local_run most r (part most r) (local_part most r) var_in
-
-pub local_var_on : (most r n : ℕ) → IsLocal (var_on most r n)
-unfolding var_on
-local_var_on most r n = local_run most r (part most r) (local_part most r) (vars_on (named n, 0))
 
 -- ---- growth
 

@@ -8,12 +8,13 @@ use Rattle.svr_reader.specs.Program.{call}
 use Rattle.svr_reader.proofs.Live.{AnyToken}
 use Rattle.svr_reader.proofs.Goals.{Goal, weaken_goal}
 use Rattle.svr_reader.proofs.Layers.{IsSound, IsComplete, IsViable, IsOpen, Low, complete_of, sound_of, open_of}
+use Rattle.svr_reader.proofs.Led.{a_name}
 use Rattle.svr_expr.specs.ExprRules.{expr}
 use Rattle.svr_expr_laws.proofs.Trees.{level_pos}
 use Rattle.svr_expr_laws.proofs.Sound.{expr_sound}
 use Rattle.svr_expr_laws.proofs.CompleteParts.{Before}
 use Rattle.svr_expr_laws.proofs.Complete.{expr_complete}
-use Rattle.svr_expr_laws.proofs.LiveParts.{Closes, a_name}
+use Rattle.svr_expr_laws.proofs.LiveParts.{Closes}
 use Rattle.svr_expr_laws.proofs.Live.{expr_open}
 use Rattle.svr_item_laws.proofs.Sound.{block_items_sound}
 use Rattle.svr_item_laws.proofs.CompleteItems.{block_items_complete}
@@ -24,7 +25,7 @@ use Rattle.svr_decl_laws.proofs.SoundMembers.{type_decl_height, typedef_in_sound
 use Rattle.svr_decl_laws.proofs.SoundClasses.{vars_spelling, IsVarOf, class_in_sound, var_in_sound, vars_sound}
 use Rattle.svr_decl_laws.proofs.CompleteMembers.{typedef_in_complete}
 use Rattle.svr_decl_laws.proofs.CompleteClasses.{class_in_complete, var_in_complete, vars_complete}
-use Rattle.svr_decl_laws.proofs.Growth.{local_part}
+use Rattle.svr_decl.proofs.Local.{local_part}
 use Rattle.svr_decl_laws.proofs.LiveMembers.{typedef_form}
 use Rattle.svr_decl_laws.proofs.LiveClasses.{vars_on_goal, vars_on_form, var_form, class_form}
 

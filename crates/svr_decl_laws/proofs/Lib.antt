@@ -1,3 +1,4 @@
+pub mod Optional
 pub mod Before
 pub mod SoundTypes
 pub mod SoundMembers

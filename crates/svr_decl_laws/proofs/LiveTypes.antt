@@ -12,33 +12,30 @@ use Rattle.svr_tree.specs.declared.decl.AtomKind.TheVariants as atom_kind
 use Rattle.svr_tree.specs.Tokens.{Tok}
 use Rattle.svr_tree.specs.ExprTree.{ExprTree}
 use Rattle.svr_tree.specs.DeclTree.{IntegerTypeTree, atom, named}
+use Rattle.svr_reader.specs.Outcomes.{Parser, lexeme_at}
 use Rattle.svr_reader.specs.declared.fixed.Fixed.TheVariants as f
-use Rattle.svr_reader.specs.Program.{pure, bind, call, Parser, lexeme_at, run}
-use Rattle.svr_reader.specs.Steps.{choose}
-use Rattle.svr_reader.specs.Lists.{Tall}
-use Rattle.svr_reader.proofs.Steps.{bind_is, choose_false}
+use Rattle.svr_reader.specs.Program.{pure, bind, call, run}
+use Rattle.svr_reader.specs.Lists.{WithHeight, choose, name}
+use Rattle.svr_reader.proofs.Steps.{bind_is, choose_false, name_complete}
 use Rattle.svr_reader.proofs.Local.{IsLocal}
 use Rattle.svr_reader.proofs.Live.{AnyToken}
 use Rattle.svr_reader.proofs.Goals.{Goal, Form, then_goal, then_form, goal_of, pure_goal, take_form, peek_form, refuse_form, any_goal}
-use Rattle.svr_reader.proofs.Led.{AnyAnswer, tok, goal_expect, opt_goal}
+use Rattle.svr_reader.proofs.Led.{AnyAnswer, tok, goal_expect, opt_goal, a_name, name_form, name_tok}
 use Rattle.svr_reader.proofs.LivePeeks.{Peeks, reads, stops, peek_goal}
 use Rattle.svr_reader.proofs.Layers.{Low}
-use Rattle.svr_expr.specs.ExprRules.{name}
-use Rattle.svr_expr_laws.proofs.Names.{name_complete}
-use Rattle.svr_expr_laws.proofs.Nodes.{name_tok}
-use Rattle.svr_expr_laws.proofs.LiveParts.{Closes, a_name, name_form}
-use Rattle.svr_decl.specs.DeclRules.{Part, an_expression, Ans, Reader, signing_by, signing, packed_on, packed_by, packed, vector_type, atom_type, integer_type_by, integer_type, starts_type, written_type, named_type, data_type_by, data_type, initial, written_base, enum_base}
+use Rattle.svr_expr_laws.proofs.LiveParts.{Closes}
+use Rattle.svr_decl.specs.DeclRules.{Part, an_expression, Ans, Rule, signing_by, signing, packed_on, packed_by, packed, vector_type, atom_type, integer_type_by, integer_type, starts_type, written_type, named_type, data_type_by, data_type, initial, written_base, enum_base}
 use Rattle.svr_decl_laws.proofs.Before.{is_sign, AfterType, AfterBase, EndsInitial}
 use Rattle.svr_decl_laws.proofs.CompleteTypes.{no_sign, signing_stops, packed_stops}
 
 module _ (most r : ℕ) (sub : (k : Part) → Parser (Ans k)) (ls : (k : Part) → IsLocal (sub k)) (some : 1 ≤ most) (any : (D : Option Lexeme → Type 0) → D a_name → Goal most r sub ls D Closes (Low r) (call an_expression)) where
-  abbrev R : {X : Type 0} → Reader X → Parser X
+  abbrev R : {X : Type 0} → Rule X → Parser X
   R p = run most r sub p
 
-  abbrev G : {X : Type 0} → (D C : Option Lexeme → Type 0) → (X → Type 0) → Reader X → Type 0
+  abbrev G : {X : Type 0} → (D C : Option Lexeme → Type 0) → (X → Type 0) → Rule X → Type 0
   G D C Q q = Goal most r sub ls D C Q q
 
-  abbrev F : {X : Type 0} → (C : Option Lexeme → Type 0) → (X → Type 0) → Reader X → Type 0
+  abbrev F : {X : Type 0} → (C : Option Lexeme → Type 0) → (X → Type 0) → Rule X → Type 0
   F C Q q = Form most r sub ls C Q q
 
   -- ---- signs and ranges
@@ -99,7 +96,7 @@ module _ (most r : ℕ) (sub : (k : Part) → Parser (Ans k)) (ls : (k : Part) �
 
   named_form : F AfterType (Low r) named_type
   unfolding named_type
-  named_form = then_form most r sub ls (name_form most r sub ls some) (λ n _. pure_goal most r sub ls (omega arith) (λ _ _. tt))
+  named_form = then_form most r sub ls (name_form most r sub ls) (λ n _. pure_goal most r sub ls (omega arith) (λ _ _. tt))
 
   written_form : F AfterType (Low r) written_type
   unfolding written_type
@@ -122,7 +119,7 @@ module _ (most r : ℕ) (sub : (k : Part) → Parser (Ans k)) (ls : (k : Part) �
 
   -- ---- what may be left out
 
-  abbrev written_value : Reader (Tall (Option ExprTree))
+  abbrev written_value : Rule (WithHeight (Option ExprTree))
   written_value = bind (call an_expression) (λ e. pure (Some e.0, e.1))
 
   pub initial_goal : G EndsInitial EndsInitial (Low r) initial
@@ -133,7 +130,7 @@ module _ (most r : ℕ) (sub : (k : Part) → Parser (Ans k)) (ls : (k : Part) �
   unfolding written_base
   base_form = then_form most r sub ls integer_form (λ t g. pure_goal most r sub ls g (λ q h. h.0))
 
-  abbrev base_by : Option Lexeme → Reader (Tall (Option IntegerTypeTree))
+  abbrev base_by : Option Lexeme → Rule (WithHeight (Option IntegerTypeTree))
   base_by l = choose (starts_type l) written_base (pure (None, 0))
 
   base_peeks : (b : Bool) → Peeks most r sub ls AfterBase (Low r) (None, 0) (choose b written_base (pure (None, 0)))

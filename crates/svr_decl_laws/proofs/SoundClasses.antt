@@ -10,33 +10,18 @@ use Rattle.svr_tree.specs.ItemGrammar.{AreBlockItems, items_height}
 use Rattle.svr_tree.specs.ExprGrammar.{parens_spelling, expr_spelling, IsExpr, expr_height}
 use Rattle.svr_tree.specs.DeclTree.{DataTypeTree, named, BlockTree, ClassItemTree, VarInitTree, VarTree}
 use Rattle.svr_tree.specs.DeclGrammar.{type_spelling, block_spelling, class_item_spelling, extends_spelling, label_spelling, class_spelling, var_init_spelling, var_declarator_spelling, var_spelling, IsType, IsClassItem, IsClass, IsVarInit, IsVarDeclarator, IsVar, greatest, type_height, class_item_height, class_height, var_init_height, var_declarator_height, var_height}
-use Rattle.svr_reader.specs.declared.fixed.Fixed.{Fixed}
+use Rattle.svr_reader.specs.Outcomes.{Parser}
 use Rattle.svr_reader.specs.declared.fixed.Fixed.TheVariants as f
-use Rattle.svr_reader.specs.Program.{Parser, run}
-use Rattle.svr_reader.specs.Steps.{fixed_lexeme, expect}
-use Rattle.svr_reader.specs.Lists.{Tall, listing, until}
-use Rattle.svr_reader.proofs.Steps.{bind_ok, yields, takes_append, expect_ok, led_ok}
+use Rattle.svr_reader.specs.Program.{run, expect}
+use Rattle.svr_reader.specs.Lists.{WithHeight, listing, until, name, parens, name_behind}
+use Rattle.svr_reader.proofs.Steps.{bind_ok, yields, takes_append, expect_ok, led_ok, name_sound}
 use Rattle.svr_reader.proofs.Layers.{ReadAs, IsSound}
 use Rattle.svr_reader.proofs.Lists.{listing_sound, until_sound}
-use Rattle.svr_expr.specs.ExprRules.{name}
-use Rattle.svr_expr_laws.proofs.Names.{name_sound}
-use Rattle.svr_decl.specs.DeclRules.{Part, an_expression, the_block_items, Ans, Reader, data_type, property_in, block_on, class_item, name_behind, class_in, parens, var_value, var_initial, var_declarator, vars_on, var_in}
+use Rattle.svr_decl.specs.DeclRules.{Part, an_expression, the_block_items, Ans, Rule, data_type, property_in, block_on, class_item, class_in, var_value, var_initial, var_declarator, vars_on, var_in}
+use Rattle.svr_decl_laws.proofs.Optional.{extends_is, label_is, name_behind_sound, parens_sound}
 use Rattle.svr_decl_laws.proofs.Before.{block_text, AreOfBlock, block_height}
 use Rattle.svr_decl_laws.proofs.SoundTypes.{type_sound}
 use Rattle.svr_decl_laws.proofs.SoundMembers.{property_sound}
-
--- a word or mark and a name, or none of both
-abbrev pub behind_spelling : Fixed → Option ℕ → List Entry
-behind_spelling k None = []
-behind_spelling k (Some n) = Any (fixed_lexeme k) ∷ (Name n ∷ [])
-
-pub extends_is : (o : Option ℕ) → behind_spelling (f.Word w.Extends) o ≡ extends_spelling o
-extends_is None = refl
-extends_is (Some n) = refl
-
-pub label_is : (o : Option ℕ) → behind_spelling (f.Mark m.Colon) o ≡ label_spelling o
-label_is None = refl
-label_is (Some n) = refl
 
 -- what a variable spells behind its type
 abbrev pub vars_spelling : VarTree → List Entry
@@ -47,48 +32,34 @@ abbrev pub IsVarOf : DataTypeTree → VarTree → Type 0
 IsVarOf t v = IsVar v × (v.kind ≡ t)
 
 module _ (most r : ℕ) (sub : (k : Part) → Parser (Ans k)) (ok : IsSound expr_spelling IsExpr expr_height r (sub an_expression)) where
-  abbrev R : {A : Type 0} → Reader A → Parser A
+  abbrev R : {A : Type 0} → Rule A → Parser A
   R p = run most r sub p
-
-  name_behind_sound : (k : Fixed) (i : List Tok) (o : Option ℕ) (j : List Tok) → R (name_behind k) i ≡ Ok (o, j) → FitEach i (behind_spelling k o) j
-  unfolding name_behind
-  name_behind_sound k i o j h = led_ok most r sub k _ _ i (o, j) h
-      (λ mid t g. bind_ok (R name mid) _ (o, j) g (λ n j2 e g2.
-      yields (λ z z2. FitEach i (behind_spelling k z) z2) _ _ (o, j) g2 (takes_append i (Any (fixed_lexeme k) ∷ []) (Name n ∷ []) mid j2 t (name_sound most r sub mid n j2 e))))
-      (λ _ g. yields (λ z z2. FitEach i (behind_spelling k z) z2) _ _ (o, j) g refl)
 
   -- ---- variables
 
-  parens_sound : (i : List Tok) (b : Bool) (j : List Tok) → R parens i ≡ Ok (b, j) → FitEach i (parens_spelling b) j
-  unfolding parens
-  parens_sound i b j h = led_ok most r sub (f.Mark m.OpenParen) _ _ i (b, j) h
-      (λ mid t g. bind_ok (R (expect (f.Mark m.CloseParen)) mid) _ (b, j) g (λ u j2 e g2.
-      yields (λ z z2. FitEach i (parens_spelling z) z2) _ _ (b, j) g2 (takes_append i (mark m.OpenParen ∷ []) (mark m.CloseParen ∷ []) mid j2 t (expect_ok most r sub (f.Mark m.CloseParen) mid (u, j2) e))))
-      (λ _ g. yields (λ z z2. FitEach i (parens_spelling z) z2) _ _ (b, j) g refl)
-
-  abbrev ReadInit : List Tok → Tall (Option VarInitTree) → List Tok → Type 0
+  abbrev ReadInit : List Tok → WithHeight (Option VarInitTree) → List Tok → Type 0
   ReadInit i x j = ReadAs var_init_spelling IsVarInit var_init_height r i x j
 
-  var_value_sound : (i mid : List Tok) (x : Tall (Option VarInitTree)) (j : List Tok) → FitEach i (mark m.Assign ∷ []) mid → R var_value mid ≡ Ok (x, j) → ReadInit i x j
+  var_value_sound : (i mid : List Tok) (x : WithHeight (Option VarInitTree)) (j : List Tok) → FitEach i (mark m.Assign ∷ []) mid → R var_value mid ≡ Ok (x, j) → ReadInit i x j
   unfolding var_value
   var_value_sound i mid x j t h = led_ok most r sub (f.Word w.New) _ _ mid (x, j) h
       (λ j2 word_new g. bind_ok (R parens j2) _ (x, j) g (λ c j3 e g2.
       yields (ReadInit i) _ _ (x, j) g2 (record {
-        takes = takes_append i (mark m.Assign ∷ []) (word w.New ∷ parens_spelling c) mid j3 t (takes_append mid (word w.New ∷ []) (parens_spelling c) j2 j3 word_new (parens_sound j2 c j3 e));
+        takes = takes_append i (mark m.Assign ∷ []) (word w.New ∷ parens_spelling c) mid j3 t (takes_append mid (word w.New ∷ []) (parens_spelling c) j2 j3 word_new (parens_sound most r sub j2 c j3 e));
         is = tt;
-        tall = refl;
+        height = refl;
         low = omega arith;
       })))
       (λ _ g. bind_ok (sub an_expression mid) _ (x, j) g (λ a j2 e g2.
       let s = ok.at mid a j2 e in
-      yields (ReadInit i) _ _ (x, j) g2 (record { takes = takes_append i (mark m.Assign ∷ []) (expr_spelling a.0) mid j2 t s.takes; is = s.is; tall = s.tall; low = s.low })))
+      yields (ReadInit i) _ _ (x, j) g2 (record { takes = takes_append i (mark m.Assign ∷ []) (expr_spelling a.0) mid j2 t s.takes; is = s.is; height = s.height; low = s.low })))
 
   var_initial_sound : IsSound var_init_spelling IsVarInit var_init_height r (R var_initial)
   unfolding var_initial
   var_initial_sound = record {
     at = λ i x j h. led_ok most r sub (f.Mark m.Assign) _ _ i (x, j) h
         (λ mid t g. var_value_sound i mid x j t g)
-        (λ _ g. yields (ReadInit i) _ _ (x, j) g (record { takes = refl; is = tt; tall = refl; low = omega arith }));
+        (λ _ g. yields (ReadInit i) _ _ (x, j) g (record { takes = refl; is = tt; height = refl; low = omega arith }));
   }
 
   var_declarator_sound : IsSound var_declarator_spelling IsVarDeclarator var_declarator_height r (R var_declarator)
@@ -99,7 +70,7 @@ module _ (most r : ℕ) (sub : (k : Part) → Parser (Ans k)) (ok : IsSound expr
         yields (ReadAs var_declarator_spelling IsVarDeclarator var_declarator_height r i) _ _ (x, j) g2 (record {
           takes = takes_append i (Name n ∷ []) (var_init_spelling v.0) j2 j3 (name_sound most r sub i n j2 e) d.takes;
           is = d.is;
-          tall = d.tall;
+          height = d.height;
           low = d.low;
         })));
   }
@@ -108,7 +79,7 @@ module _ (most r : ℕ) (sub : (k : Part) → Parser (Ans k)) (ok : IsSound expr
   var_declarators_sound = listing_sound most r sub var_declarator var_declarator_spelling IsVarDeclarator var_declarator_height var_declarator_sound
 
   -- what stands behind a type that was read from i0
-  vars_on_sound : (i0 : List Tok) (t : Tall DataTypeTree) (i : List Tok) (x : Tall VarTree) (j : List Tok) → ReadAs type_spelling IsType type_height r i0 t i → R (vars_on t) i ≡ Ok (x, j)
+  vars_on_sound : (i0 : List Tok) (t : WithHeight DataTypeTree) (i : List Tok) (x : WithHeight VarTree) (j : List Tok) → ReadAs type_spelling IsType type_height r i0 t i → R (vars_on t) i ≡ Ok (x, j)
       → ReadAs var_spelling IsVar var_height r i0 x j × FitEach i (vars_spelling x.0) j × (x.0.kind ≡ t.0)
   unfolding vars_on
   vars_on_sound i0 t i x j a h = bind_ok (R (listing var_declarator) i) _ (x, j) h (λ vs j2 e g. bind_ok (R (expect (f.Mark m.Semicolon)) j2) _ (x, j) g (λ u j3 e2 g2.
@@ -118,7 +89,7 @@ module _ (most r : ℕ) (sub : (k : Part) → Parser (Ans k)) (ok : IsSound expr
         record {
           takes = takes_append i0 (type_spelling t.0) (listed var_declarator_spelling vs.0 ++ mark m.Semicolon ∷ []) i j3 a.takes all;
           is = (a.is, d.is);
-          tall = omega (arith, a.tall, d.tall);
+          height = omega (arith, a.height, d.height);
           low = omega (arith, a.low, d.low);
         },
         all,
@@ -133,14 +104,14 @@ module _ (most r : ℕ) (sub : (k : Part) → Parser (Ans k)) (ok : IsSound expr
   vars_sound n = record {
     at = λ i x j h.
         let t : Tok = record { at = n; lexeme = lexeme.Name name_kind.Plain } in
-        let d = vars_on_sound (t ∷ i) (named n, 0) i x j (record { takes = ((refl, record { kind = name_kind.Plain; is = refl }), refl); is = tt; tall = refl; low = omega arith }) h in
-        record { takes = d.1; is = (d.0.is, d.2); tall = d.0.tall; low = d.0.low };
+        let d = vars_on_sound (t ∷ i) (named n, 0) i x j (record { takes = ((refl, record { kind = name_kind.Plain; is = refl }), refl); is = tt; height = refl; low = omega arith }) h in
+        record { takes = d.1; is = (d.0.is, d.2); height = d.0.height; low = d.0.low };
   }
 
   -- ---- classes
 
   module _ (items_ok : IsSound block_text AreOfBlock block_height r (sub the_block_items)) where
-    block_sound : (i mid : List Tok) (x : Tall BlockTree) (j : List Tok) → FitEach i (word w.Constraint ∷ []) mid → R block_on mid ≡ Ok (x, j)
+    block_sound : (i mid : List Tok) (x : WithHeight BlockTree) (j : List Tok) → FitEach i (word w.Constraint ∷ []) mid → R block_on mid ≡ Ok (x, j)
         → FitEach i (block_spelling x.0) j × AreBlockItems x.0.items × (x.1 ≡ items_height x.0.items) × (x.1 ≤ r)
     unfolding block_on
     block_sound i mid x j t h = bind_ok (R name mid) _ (x, j) h (λ n j2 e g. bind_ok (R (expect (f.Mark m.OpenBrace)) j2) _ (x, j) g (λ u j3 e2 g2. bind_ok (sub the_block_items j3) _ (x, j) g2 (λ xs j4 e3 g3.
@@ -150,7 +121,7 @@ module _ (most r : ℕ) (sub : (k : Part) → Parser (Ans k)) (ok : IsSound expr
               (takes_append mid (Name n ∷ []) (mark m.OpenBrace ∷ block_text xs.0) j2 j4 (name_sound most r sub mid n j2 e)
               (takes_append j2 (mark m.OpenBrace ∷ []) (block_text xs.0) j3 j4 (expect_ok most r sub (f.Mark m.OpenBrace) j2 (u, j3) e2) d.takes)),
           d.is,
-          d.tall,
+          d.height,
           d.low,
         ))))
 
@@ -160,14 +131,14 @@ module _ (most r : ℕ) (sub : (k : Part) → Parser (Ans k)) (ok : IsSound expr
       at = λ i x j h. led_ok most r sub (f.Word w.Constraint) _ _ i (x, j) h
           (λ mid t g. bind_ok (R block_on mid) _ (x, j) g (λ b j2 e g2.
           let d = block_sound i mid b j2 t e in
-          yields (ReadAs class_item_spelling IsClassItem class_item_height r i) _ _ (x, j) g2 (record { takes = d.0; is = d.1; tall = d.2; low = d.3 })))
+          yields (ReadAs class_item_spelling IsClassItem class_item_height r i) _ _ (x, j) g2 (record { takes = d.0; is = d.1; height = d.2; low = d.3 })))
           (λ _ g. bind_ok (R property_in i) _ (x, j) g (λ p j2 e g2.
           let d = (property_sound most r sub ok).at i p j2 e in
-          yields (ReadAs class_item_spelling IsClassItem class_item_height r i) _ _ (x, j) g2 (record { takes = d.takes; is = d.is; tall = d.tall; low = d.low })));
+          yields (ReadAs class_item_spelling IsClassItem class_item_height r i) _ _ (x, j) g2 (record { takes = d.takes; is = d.is; height = d.height; low = d.low })));
     }
 
     abbrev items_text : List ClassItemTree → List Entry
-    items_text xs = tokens.run class_item_spelling xs ++ word w.EndClass ∷ []
+    items_text xs = tokens.each_spelling class_item_spelling xs ++ word w.EndClass ∷ []
 
     class_items_sound : IsSound items_text (Each IsClassItem) (greatest class_item_height) r (R (until (f.Word w.EndClass) class_item))
     class_items_sound = until_sound most r sub class_item class_item_spelling IsClassItem class_item_height (f.Word w.EndClass) class_item_sound
@@ -179,17 +150,17 @@ module _ (most r : ℕ) (sub : (k : Part) → Parser (Ans k)) (ok : IsSound expr
           bind_ok (R (name_behind (f.Word w.Extends)) j3) _ (x, j) g2 (λ b j4 e3 g3. bind_ok (R (expect (f.Mark m.Semicolon)) j4) _ (x, j) g3 (λ u2 j5 e4 g4.
           bind_ok (R (until (f.Word w.EndClass) class_item) j5) _ (x, j) g4 (λ xs j6 e5 g5. bind_ok (R (name_behind (f.Mark m.Colon)) j6) _ (x, j) g5 (λ l j7 e6 g6.
           let d = class_items_sound.at j5 xs j6 e5 in
-          let base = subst (λ es. FitEach j3 es j4) (extends_is b) (name_behind_sound (f.Word w.Extends) j3 b j4 e3) in
-          let label = subst (λ es. FitEach j6 es j7) (label_is l) (name_behind_sound (f.Mark m.Colon) j6 l j7 e6) in
-          let rest = tokens.run class_item_spelling xs.0 ++ word w.EndClass ∷ label_spelling l in
-          let last = subst (λ es. FitEach j5 es j7) (append_assoc (tokens.run class_item_spelling xs.0) (word w.EndClass ∷ []) (label_spelling l)) (takes_append j5 (items_text xs.0) (label_spelling l) j6 j7 d.takes label) in
+          let base = subst (λ es. FitEach j3 es j4) (extends_is b) (name_behind_sound most r sub (f.Word w.Extends) j3 b j4 e3) in
+          let label = subst (λ es. FitEach j6 es j7) (label_is l) (name_behind_sound most r sub (f.Mark m.Colon) j6 l j7 e6) in
+          let rest = tokens.each_spelling class_item_spelling xs.0 ++ word w.EndClass ∷ label_spelling l in
+          let last = subst (λ es. FitEach j5 es j7) (append_assoc (tokens.each_spelling class_item_spelling xs.0) (word w.EndClass ∷ []) (label_spelling l)) (takes_append j5 (items_text xs.0) (label_spelling l) j6 j7 d.takes label) in
           yields (ReadAs class_spelling IsClass class_height r i) _ _ (x, j) g6 (record {
             takes = takes_append i (word w.Class ∷ []) (Name n ∷ (extends_spelling b ++ mark m.Semicolon ∷ rest)) j2 j7 (expect_ok most r sub (f.Word w.Class) i (u, j2) e)
                 (takes_append j2 (Name n ∷ []) (extends_spelling b ++ mark m.Semicolon ∷ rest) j3 j7 (name_sound most r sub j2 n j3 e2)
                 (takes_append j3 (extends_spelling b) (mark m.Semicolon ∷ rest) j4 j7 base
                 (takes_append j4 (mark m.Semicolon ∷ []) rest j5 j7 (expect_ok most r sub (f.Mark m.Semicolon) j4 (u2, j5) e4) last)));
             is = d.is;
-            tall = d.tall;
+            height = d.height;
             low = d.low;
           })))))));
     }

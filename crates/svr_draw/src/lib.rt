@@ -5,8 +5,6 @@ mod assignment;
 mod examples;
 mod pick;
 mod share;
-#[cfg(test)]
-mod tests;
 mod words;
 
 pub use assignment::preferred;

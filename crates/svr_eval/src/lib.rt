@@ -9,8 +9,6 @@ mod item;
 mod operand;
 mod operator;
 mod parts;
-#[cfg(test)]
-mod tests;
 
 pub use assign::Assign;
 pub use env::Env;

@@ -1,3 +1,3 @@
-pub mod Links
+pub mod Connectives
 pub mod ExprRules
 pub mod Parts

@@ -7,31 +7,23 @@ use Rattle.svr_token.specs.declared.Mark.TheVariants as m
 use Rattle.svr_tree.specs.Tokens.{Tok}
 use Rattle.svr_tree.specs.declared.expr.Expr.{Expr}
 use Rattle.svr_tree.specs.ExprTree.{ExprTree, expr_tree, part_select}
+use Rattle.svr_tree.specs.Operators.{implication_level}
 use Rattle.svr_reader.specs.declared.fault.ReadFault.{ReadFault}
 use Rattle.svr_reader.specs.declared.fixed.Fixed.TheVariants as f
-use Rattle.svr_reader.specs.Program.{Parser, run, pure, call}
-use Rattle.svr_reader.specs.Steps.{expect}
+use Rattle.svr_reader.specs.Program.{pure, expect, call}
 use Rattle.svr_reader.specs.Answers.{Gives}
-use Rattle.svr_reader.specs.Calls.{cap, tall_by}
-use Rattle.svr_reader.specs.Lists.{◌>>=◌, ◌>>◌, Tall}
-use Rattle.svr_expr.specs.ExprRules.{Reader, expr}
-
--- what a production comes to in the code, where the parts of an expression may be so high
-abbrev pub R : {A : Type 0} → ℕ → Reader A → Parser A
-R room p = run cap room (expr cap room) p
-
--- what a production that calls for no parts comes to
-abbrev pub Plainly : {A : Type 0} → Reader A → Parser A
-Plainly p = R 0 p
+use Rattle.svr_reader.specs.Calls.{cap, height_view}
+use Rattle.svr_reader.specs.Lists.{◌>>=◌, ◌>>◌, WithHeight}
+use Rattle.svr_expr.specs.ExprRules.{Rule, expr}
 
 -- an expression seen as data, with the kind of its last name
-abbrev pub kind_by : Expr × NameKind → ExprTree × NameKind
-kind_by x = (expr_tree x.0, x.1)
+abbrev pub kind_view : Expr × NameKind → ExprTree × NameKind
+kind_view x = (expr_tree x.0, x.1)
 
 -- the last bound of a part-select of which the rest was read, and is as high as the last number
-abbrev pub last_of : ℕ → ExprTree → ExprTree → ℕ → Reader (Tall ExprTree)
+abbrev pub last_of : ℕ → ExprTree → ExprTree → ℕ → Rule (WithHeight ExprTree)
 last_of at base first height = do
-  last ← call 1
+  last ← call implication_level
   expect (f.Mark m.CloseBracket)
   pure (part_select at base first last.0 false, max height last.1 + 1)
 
@@ -39,6 +31,6 @@ last_of at base first height = do
 pub record Nests (room : ℕ) (pre : Global → MutBor (List Tok) → ℕ → ℕ → Type 0)
     (post : Global → MutBor (List Tok) → ℕ → ℕ → Result (Expr × ℕ) ReadFault → MutBor (List Tok) → Type 0) : Type 0 where
   pub callable : (alloc : Global) (old : MutBor (List Tok)) (least : ℕ) → pre alloc old room least
-  pub gives : (alloc : Global) (old new : MutBor (List Tok)) (least : ℕ) (r : Result (Tall Expr) ReadFault) → post alloc old room least r new
-      → Gives (tall_by expr_tree) (expr cap room least old.now) r new.now
-  pub low : (alloc : Global) (old new : MutBor (List Tok)) (least : ℕ) (r : Result (Tall Expr) ReadFault) → post alloc old room least r new → IfOk r (λ x. x.1 ≤ room)
+  pub gives : (alloc : Global) (old new : MutBor (List Tok)) (least : ℕ) (r : Result (WithHeight Expr) ReadFault) → post alloc old room least r new
+      → Gives (height_view expr_tree) (expr cap room least old.now) r new.now
+  pub low : (alloc : Global) (old new : MutBor (List Tok)) (least : ℕ) (r : Result (WithHeight Expr) ReadFault) → post alloc old room least r new → IfOk r (λ x. x.1 ≤ room)

@@ -4,22 +4,25 @@ ghost use Rattle.std.specs.Prelude.{◌≡◌, ◌≤◌, ◌<◌, ◌+◌, ◌^
 ghost use Rattle.svr_tree.specs.ExprTree.{expr_tree};
 ghost use Rattle.svr_tree.specs.Operators as operators;
 ghost use Rattle.svr_reader.specs.Answers.{Gives};
-ghost use Rattle.svr_reader.specs.Calls.{cap, tall_by};
+ghost use Rattle.svr_reader.specs.Calls.{cap, height_view};
 ghost use Rattle.svr_expr.specs.ExprRules as spec;
-ghost use Rattle.svr_expr.specs.Links as links;
-ghost use Rattle.svr_expr.specs.Parts.{R, Nests};
+ghost use Rattle.svr_expr.specs.Connectives as connectives;
+ghost use Rattle.svr_expr.specs.Parts.{Nests};
 
-use crate::link::{Link, goes_on, least_right, link_level, link_of, precedence};
-use crate::parts::Parts;
+use crate::connective::{
+    Connective, connective_level, connective_of, goes_on, least_right, precedence,
+};
+use crate::reader::Reader;
 use std::alloc::Global;
 use svr_operator::BinOp;
-use svr_reader::{Cursor, ReadFault, TURNS};
-use svr_tree::{Expr, Mark};
+use svr_reader::{Cursor, Fixed, ReadFault};
+use svr_token::Mark;
+use svr_tree::{Expr, level};
 
-impl<F: Fn(Global, &mut Cursor<'_>, usize, u8) -> Result<(Expr, usize), ReadFault>> Parts<F> {
+impl<F: Fn(Global, &mut Cursor<'_>, usize, u8) -> Result<(Expr, usize), ReadFault>> Reader<F> {
     /// The right operand of a binary operator.
-    #[tactic(auto, unfolding(crate::specs::ExprRules::operated))]
-    fn operated(
+    #[tactic(auto, unfolding(crate::specs::ExprRules::binary_on))]
+    fn binary_on(
         &self,
         cursor: &mut Cursor<'_>,
         at: u32,
@@ -30,7 +33,7 @@ impl<F: Fn(Global, &mut Cursor<'_>, usize, u8) -> Result<(Expr, usize), ReadFaul
         requires nests { Nests self.now.room (F.pre self.now.expr) (F.post self.now.expr) }
         requires room { self.now.room + 1 < 2 ^ 64 }
         requires left { height ≤ self.now.room }
-        ensures gives { Gives (tall_by expr_tree) (R self.now.room (spec.operated at (tall_by expr_tree (left, height)) op) cursor.old) result cursor.new }
+        ensures gives { Gives (height_view expr_tree) (spec.within cap self.now.room (spec.binary_on at (height_view expr_tree (left, height)) op) cursor.old) result cursor.new }
         ensures low { IfOk result (λ x. x.1 ≤ self.now.room + 1) }
     {
         let (right, right_height) = self.part(cursor, least_right(precedence(op)))?;
@@ -39,8 +42,8 @@ impl<F: Fn(Global, &mut Cursor<'_>, usize, u8) -> Result<(Expr, usize), ReadFaul
     }
 
     /// The two values of a choice, behind its test.
-    #[tactic(auto, unfolding(crate::specs::ExprRules::chosen))]
-    fn chosen(
+    #[tactic(auto, unfolding(crate::specs::ExprRules::choice_on))]
+    fn choice_on(
         &self,
         cursor: &mut Cursor<'_>,
         at: u32,
@@ -50,19 +53,19 @@ impl<F: Fn(Global, &mut Cursor<'_>, usize, u8) -> Result<(Expr, usize), ReadFaul
         requires nests { Nests self.now.room (F.pre self.now.expr) (F.post self.now.expr) }
         requires room { self.now.room + 1 < 2 ^ 64 }
         requires test { height ≤ self.now.room }
-        ensures gives { Gives (tall_by expr_tree) (R self.now.room (spec.chosen at (tall_by expr_tree (test, height))) cursor.old) result cursor.new }
+        ensures gives { Gives (height_view expr_tree) (spec.within cap self.now.room (spec.choice_on at (height_view expr_tree (test, height))) cursor.old) result cursor.new }
         ensures low { IfOk result (λ x. x.1 ≤ self.now.room + 1) }
     {
-        let (yes, yes_height) = self.part(cursor, 1)?;
-        self.expect(cursor, Mark::Colon)?;
-        let (no, no_height) = self.part(cursor, 2)?;
+        let (yes, yes_height) = self.part(cursor, level::IMPLICATION)?;
+        cursor.expect(Fixed::Mark(Mark::Colon))?;
+        let (no, no_height) = self.part(cursor, level::CONDITIONAL)?;
         let whole = Expr::choice(self.alloc, at, test, yes, no)?;
         Ok((whole, height.max(yes_height).max(no_height) + 1))
     }
 
     /// The set behind `inside`.
-    #[tactic(auto, unfolding(crate::specs::ExprRules::among))]
-    fn among(
+    #[tactic(auto, unfolding(crate::specs::ExprRules::inside_on))]
+    fn inside_on(
         &self,
         cursor: &mut Cursor<'_>,
         at: u32,
@@ -72,17 +75,17 @@ impl<F: Fn(Global, &mut Cursor<'_>, usize, u8) -> Result<(Expr, usize), ReadFaul
         requires nests { Nests self.now.room (F.pre self.now.expr) (F.post self.now.expr) }
         requires room { self.now.room + 1 < 2 ^ 64 }
         requires left { height ≤ self.now.room }
-        ensures gives { Gives (tall_by expr_tree) (R self.now.room (spec.among at (tall_by expr_tree (left, height))) cursor.old) result cursor.new }
+        ensures gives { Gives (height_view expr_tree) (spec.within cap self.now.room (spec.inside_on at (height_view expr_tree (left, height))) cursor.old) result cursor.new }
         ensures low { IfOk result (λ x. x.1 ≤ self.now.room + 1) }
     {
-        self.expect(cursor, Mark::OpenBrace)?;
+        cursor.expect(Fixed::Mark(Mark::OpenBrace))?;
         let (members, members_height) = self.ranges(cursor)?;
-        self.expect(cursor, Mark::CloseBrace)?;
+        cursor.expect(Fixed::Mark(Mark::CloseBrace))?;
         let whole = Expr::inside(self.alloc, at, left, members)?;
         Ok((whole, height.max(members_height) + 1))
     }
 
-    /// A link and what stands behind it.
+    /// A connective and what stands behind it.
     #[tactic(auto, unfolding(crate::specs::ExprRules::extend))]
     fn extend(
         &self,
@@ -90,22 +93,23 @@ impl<F: Fn(Global, &mut Cursor<'_>, usize, u8) -> Result<(Expr, usize), ReadFaul
         at: u32,
         left: Expr,
         height: usize,
-        link: Link,
+        connective: Connective,
     ) -> Result<(Expr, usize), ReadFault>
         requires nests { Nests self.now.room (F.pre self.now.expr) (F.post self.now.expr) }
         requires room { self.now.room + 1 < 2 ^ 64 }
-        ensures gives { Gives (tall_by expr_tree) (R self.now.room (spec.extend at (tall_by expr_tree (left, height)) link) cursor.old) result cursor.new }
+        requires left { height ≤ self.now.room + 1 }
+        ensures gives { Gives (height_view expr_tree) (spec.within cap self.now.room (spec.extend at (height_view expr_tree (left, height)) connective) cursor.old) result cursor.new }
         ensures low { IfOk result (λ x. x.1 ≤ self.now.room + 1) }
     {
         cursor.enter(self.room, height)?;
-        match link {
-            Link::Binary(op) => self.operated(cursor, at, left, height, op),
-            Link::Choice => self.chosen(cursor, at, left, height),
-            Link::Inside => self.among(cursor, at, left, height),
+        match connective {
+            Connective::Binary(op) => self.binary_on(cursor, at, left, height, op),
+            Connective::Choice => self.choice_on(cursor, at, left, height),
+            Connective::Inside => self.inside_on(cursor, at, left, height),
         }
     }
 
-    /// All links of at least this level, behind an operand that begins at this token.
+    /// All connectives of at least this level, behind an operand that begins at this token.
     #[tactic(auto, unfolding(crate::specs::ExprRules::climb))]
     pub fn climb(
         &self,
@@ -118,25 +122,26 @@ impl<F: Fn(Global, &mut Cursor<'_>, usize, u8) -> Result<(Expr, usize), ReadFaul
         requires nests { Nests self.now.room (F.pre self.now.expr) (F.post self.now.expr) }
         requires room { self.now.room + 1 < 2 ^ 64 }
         requires first { first_height ≤ self.now.room + 1 }
-        ensures gives { Gives (tall_by expr_tree) (R self.now.room (spec.climb at least (tall_by expr_tree (first, first_height))) cursor.old) result cursor.new }
+        ensures gives { Gives (height_view expr_tree) (spec.within cap self.now.room (spec.climb at least (height_view expr_tree (first, first_height))) cursor.old) result cursor.new }
         ensures low { IfOk result (λ x. x.1 ≤ self.now.room + 1) }
     {
         let mut left = first;
         let mut height = first_height;
-        let mut most = 14;
-        for _turn in 0..TURNS {
-            let Some(link) = link_of(cursor.peek()) else {
+        let mut most = level::SELECTION;
+        let tokens = cursor.left();
+        for _turn in 0..tokens + 1 {
+            let Some(connective) = connective_of(cursor.peek()) else {
                 return Ok((left, height));
             };
-            if !goes_on(least, most, link_level(link)) {
+            if !goes_on(least, most, connective_level(connective)) {
                 return Ok((left, height));
             }
-            let (longer, longer_height) = self.extend(cursor, at, left, height, link)?;
+            let (longer, longer_height) = self.extend(cursor, at, left, height, connective)?;
             left = longer;
             height = longer_height;
-            most = least_right(link_level(link));
+            most = least_right(connective_level(connective));
         }
-        Err(ReadFault::NoMemory)
+        unreachable!()
     }
 
     /// An expression of at least this level.
@@ -144,7 +149,7 @@ impl<F: Fn(Global, &mut Cursor<'_>, usize, u8) -> Result<(Expr, usize), ReadFaul
     pub fn expr_in(&self, cursor: &mut Cursor<'_>, least: u8) -> Result<(Expr, usize), ReadFault>
         requires nests { Nests self.now.room (F.pre self.now.expr) (F.post self.now.expr) }
         requires room { self.now.room + 1 < 2 ^ 64 }
-        ensures gives { Gives (tall_by expr_tree) (R self.now.room (spec.expr_in least) cursor.old) result cursor.new }
+        ensures gives { Gives (height_view expr_tree) (spec.within cap self.now.room (spec.expr_in least) cursor.old) result cursor.new }
         ensures low { IfOk result (λ x. x.1 ≤ self.now.room + 1) }
     {
         let at = cursor.at();

@@ -6,16 +6,19 @@
 #![tactic(auto)]
 
 mod climb;
-mod link;
+mod connective;
 mod lists;
 mod names;
 mod node;
 mod operand;
-mod parts;
+mod reader;
+mod reduce;
 mod suffix;
-#[cfg(test)]
-mod tests;
 
-pub use link::{Link, link_of, unary_of};
-pub use names::{known_name, known_path, name, path_on};
-pub use node::{expr, exprs, links_of, member, member_on, path, range, rest_of};
+pub use connective::{Connective, connective_of, unary_of};
+pub use names::{known_path, path_on, starts_path};
+pub use node::{
+    expr, exprs, member, member_on, path, range, rest_of_operand, rest_of_path, starts_expr,
+};
+pub use reduce::owner;
+pub use suffix::with_parens;

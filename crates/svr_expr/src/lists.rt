@@ -2,28 +2,34 @@
 
 ghost use Rattle.std.specs.Prelude.{◌≡◌, ◌≤◌, IfOk};
 ghost use Rattle.svr_tree.specs.ExprTree.{expr_tree, range_tree, bound_tree};
+ghost use Rattle.svr_tree.specs.Operators.{implication_level};
 ghost use Rattle.svr_reader.specs.Answers.{Gives};
-ghost use Rattle.svr_reader.specs.Calls.{cap, tall_by, talls_by};
+ghost use Rattle.svr_reader.specs.Calls.{cap, height_view, heights_view};
 ghost use Rattle.svr_reader.specs.Program.{call};
 ghost use Rattle.svr_reader.specs.Lists.{listing_on as listing_program};
 ghost use Rattle.svr_expr.specs.ExprRules as spec;
-ghost use Rattle.svr_expr.specs.Parts.{R, Nests};
+ghost use Rattle.svr_expr.specs.Parts.{Nests};
 
-use crate::parts::Parts;
+use crate::reader::Reader;
 use sqlite_items::Items;
 use std::alloc::Global;
-use svr_reader::{Cursor, ReadFault, listing, listing_on};
-use svr_tree::{Bound, Expr, Lexeme, Mark, Range};
+use svr_reader::{Cursor, Fixed, ReadFault, listing, listing_on};
+use svr_token::{Lexeme, Mark};
+use svr_tree::{Bound, Expr, Range, level};
 
-impl<F: Fn(Global, &mut Cursor<'_>, usize, u8) -> Result<(Expr, usize), ReadFault>> Parts<F> {
+impl<F: Fn(Global, &mut Cursor<'_>, usize, u8) -> Result<(Expr, usize), ReadFault>> Reader<F> {
     /// Expressions with commas between them.
     #[tactic(auto, unfolding(crate::specs::ExprRules::exprs))]
     pub fn exprs(&self, cursor: &mut Cursor<'_>) -> Result<(Items<Expr>, usize), ReadFault>
         requires nests { Nests self.now.room (F.pre self.now.expr) (F.post self.now.expr) }
-        ensures gives { Gives (talls_by expr_tree) (R self.now.room spec.exprs cursor.old) result cursor.new }
+        ensures gives { Gives (heights_view expr_tree) (spec.within cap self.now.room spec.exprs cursor.old) result cursor.new }
         ensures low { IfOk result (λ x. x.1 ≤ self.now.room) }
     {
-        listing(self.alloc, cursor, |cursor| self.part(cursor, 1))
+        listing(
+            self.alloc,
+            cursor,
+            |cursor| self.part(cursor, level::IMPLICATION),
+        )
     }
 
     /// The same, behind the first ones.
@@ -35,17 +41,22 @@ impl<F: Fn(Global, &mut Cursor<'_>, usize, u8) -> Result<(Expr, usize), ReadFaul
     ) -> Result<(Items<Expr>, usize), ReadFault>
         requires nests { Nests self.now.room (F.pre self.now.expr) (F.post self.now.expr) }
         requires first { first_height ≤ self.now.room }
-        ensures gives { Gives (talls_by expr_tree) (R self.now.room (listing_program (call 1) (talls_by expr_tree (first, first_height))) cursor.old) result cursor.new }
+        ensures gives { Gives (heights_view expr_tree) (spec.within cap self.now.room (listing_program (call implication_level) (heights_view expr_tree (first, first_height))) cursor.old) result cursor.new }
         ensures low { IfOk result (λ x. x.1 ≤ self.now.room) }
     {
-        listing_on(cursor, first, first_height, |cursor| self.part(cursor, 1))
+        listing_on(
+            cursor,
+            first,
+            first_height,
+            |cursor| self.part(cursor, level::IMPLICATION),
+        )
     }
 
     /// A bound of a range.
     #[tactic(auto, unfolding(crate::specs::ExprRules::bound))]
     fn bound(&self, cursor: &mut Cursor<'_>) -> Result<(Bound, usize), ReadFault>
         requires nests { Nests self.now.room (F.pre self.now.expr) (F.post self.now.expr) }
-        ensures gives { Gives (tall_by bound_tree) (R self.now.room spec.bound cursor.old) result cursor.new }
+        ensures gives { Gives (height_view bound_tree) (spec.within cap self.now.room spec.bound cursor.old) result cursor.new }
         ensures low { IfOk result (λ x. x.1 ≤ self.now.room) }
     {
         match cursor.peek() {
@@ -54,23 +65,23 @@ impl<F: Fn(Global, &mut Cursor<'_>, usize, u8) -> Result<(Expr, usize), ReadFaul
                 Ok((Bound::dollar(), 0))
             }
             _ => {
-                let (value, height) = self.part(cursor, 1)?;
+                let (value, height) = self.part(cursor, level::IMPLICATION)?;
                 Ok((Bound::value(value), height))
             }
         }
     }
 
     /// Two bounds, behind their bracket.
-    #[tactic(auto, unfolding(crate::specs::ExprRules::spanned))]
-    fn spanned(&self, cursor: &mut Cursor<'_>) -> Result<(Range, usize), ReadFault>
+    #[tactic(auto, unfolding(crate::specs::ExprRules::span_on))]
+    fn span_on(&self, cursor: &mut Cursor<'_>) -> Result<(Range, usize), ReadFault>
         requires nests { Nests self.now.room (F.pre self.now.expr) (F.post self.now.expr) }
-        ensures gives { Gives (tall_by range_tree) (R self.now.room spec.spanned cursor.old) result cursor.new }
+        ensures gives { Gives (height_view range_tree) (spec.within cap self.now.room spec.span_on cursor.old) result cursor.new }
         ensures low { IfOk result (λ x. x.1 ≤ self.now.room) }
     {
         let (low, low_height) = self.bound(cursor)?;
-        self.expect(cursor, Mark::Colon)?;
+        cursor.expect(Fixed::Mark(Mark::Colon))?;
         let (high, high_height) = self.bound(cursor)?;
-        self.expect(cursor, Mark::CloseBracket)?;
+        cursor.expect(Fixed::Mark(Mark::CloseBracket))?;
         Ok((Range::span(low, high), low_height.max(high_height)))
     }
 
@@ -78,16 +89,16 @@ impl<F: Fn(Global, &mut Cursor<'_>, usize, u8) -> Result<(Expr, usize), ReadFaul
     #[tactic(auto, unfolding(crate::specs::ExprRules::range))]
     pub fn range(&self, cursor: &mut Cursor<'_>) -> Result<(Range, usize), ReadFault>
         requires nests { Nests self.now.room (F.pre self.now.expr) (F.post self.now.expr) }
-        ensures gives { Gives (tall_by range_tree) (R self.now.room spec.range cursor.old) result cursor.new }
+        ensures gives { Gives (height_view range_tree) (spec.within cap self.now.room spec.range cursor.old) result cursor.new }
         ensures low { IfOk result (λ x. x.1 ≤ self.now.room) }
     {
         match cursor.peek() {
             Some(Lexeme::Mark(Mark::OpenBracket)) => {
                 cursor.take()?;
-                self.spanned(cursor)
+                self.span_on(cursor)
             }
             _ => {
-                let (value, height) = self.part(cursor, 1)?;
+                let (value, height) = self.part(cursor, level::IMPLICATION)?;
                 Ok((Range::one(value), height))
             }
         }
@@ -97,7 +108,7 @@ impl<F: Fn(Global, &mut Cursor<'_>, usize, u8) -> Result<(Expr, usize), ReadFaul
     #[tactic(auto, unfolding(crate::specs::ExprRules::ranges))]
     pub fn ranges(&self, cursor: &mut Cursor<'_>) -> Result<(Items<Range>, usize), ReadFault>
         requires nests { Nests self.now.room (F.pre self.now.expr) (F.post self.now.expr) }
-        ensures gives { Gives (talls_by range_tree) (R self.now.room spec.ranges cursor.old) result cursor.new }
+        ensures gives { Gives (heights_view range_tree) (spec.within cap self.now.room spec.ranges cursor.old) result cursor.new }
         ensures low { IfOk result (λ x. x.1 ≤ self.now.room) }
     {
         listing(self.alloc, cursor, |cursor| self.range(cursor))

@@ -2,57 +2,18 @@
 
 ghost use Rattle.std.specs.Prelude.{◌≡◌, if◌then◌else◌, length};
 ghost use Rattle.svr_tree.specs.ExprTree.{expr_tree};
-ghost use Rattle.svr_reader.specs.Answers.{Gives};
+ghost use Rattle.svr_reader.specs.Answers.{Gives, plainly};
 ghost use Rattle.svr_reader.specs.Calls.{cap};
 ghost use Rattle.svr_reader.specs.declared.fault.ReadFault.TheVariants.{Unexpected, TooDeep};
-ghost use Rattle.svr_reader.specs.Program as prog;
-ghost use Rattle.svr_reader.specs.declared.fixed.Fixed.TheVariants as f;
-ghost use Rattle.svr_reader.specs.Steps as steps;
+ghost use Rattle.svr_reader.specs.Outcomes.{lexeme_at};
 ghost use Rattle.svr_expr.specs.ExprRules as spec;
-ghost use Rattle.svr_expr.specs.Parts.{Plainly, kind_by};
+ghost use Rattle.svr_expr.specs.Parts.{kind_view};
 
 use sqlite_items::Items;
 use std::alloc::Global;
-use svr_reader::{Cursor, Fixed, ReadFault, TURNS};
-use svr_tree::{Expr, Lexeme, Mark, NameKind, Scope, Word};
-
-/// Takes the mark, if it comes next.
-fn eat(cursor: &mut Cursor<'_>, mark: Mark) -> Result<bool, ReadFault>
-    ensures { Gives (λ b. b) (Plainly (steps.eat (f.Mark mark)) cursor.old) result cursor.new }
-{
-    cursor.eat(Fixed::Mark(mark))
-}
-
-/// Takes the mark, which has to come next.
-fn expect(cursor: &mut Cursor<'_>, mark: Mark) -> Result<(), ReadFault>
-    ensures { Gives (λ u. u) (Plainly (steps.expect (f.Mark mark)) cursor.old) result cursor.new }
-{
-    cursor.expect(Fixed::Mark(mark))
-}
-
-/// The number of a name, and of which kind it is.
-///
-/// Errors: `Unexpected` at any other token.
-#[tactic(auto, unfolding(crate::specs::ExprRules::known_name))]
-pub fn known_name(cursor: &mut Cursor<'_>) -> Result<(u32, NameKind), ReadFault>
-    ensures { Gives (λ x. x) (Plainly spec.known_name cursor.old) result cursor.new }
-{
-    match cursor.peek() {
-        Some(Lexeme::Name(kind)) => Ok((cursor.take()?, kind)),
-        _ => Err(cursor.refuse()),
-    }
-}
-
-/// The number of a name.
-///
-/// Errors: `Unexpected` at any other token.
-#[tactic(auto, unfolding(crate::specs::ExprRules::name))]
-pub fn name(cursor: &mut Cursor<'_>) -> Result<u32, ReadFault>
-    ensures { Gives (λ n. n) (Plainly spec.name cursor.old) result cursor.new }
-{
-    let (at, _) = known_name(cursor)?;
-    Ok(at)
-}
+use svr_reader::{Cursor, Fixed, ReadFault};
+use svr_token::{Lexeme, Mark, NameKind, Word};
+use svr_tree::{Expr, Scope};
 
 /// The names of a path behind its first one, each behind a dot: all names, and the kind of the last one.
 #[tactic(auto, unfolding(crate::specs::ExprRules::names_on))]
@@ -62,20 +23,21 @@ fn names_on(
     first: u32,
     first_kind: NameKind,
 ) -> Result<(Items<u32>, NameKind), ReadFault>
-    ensures { Gives (λ x. x) (Plainly (spec.names_on (first, first_kind)) cursor.old) result cursor.new }
+    ensures { Gives (λ x. x) (plainly (spec.names_on (first, first_kind)) cursor.old) result cursor.new }
 {
     let mut names = Items::new(alloc);
     names.push(first)?;
     let mut kind = first_kind;
-    for _turn in 0..TURNS {
-        if !eat(cursor, Mark::Dot)? {
+    let left = cursor.left();
+    for _turn in 0..left + 1 {
+        if !cursor.eat(Fixed::Mark(Mark::Dot)) {
             return Ok((names, kind));
         }
-        let (name, name_kind) = known_name(cursor)?;
+        let (name, name_kind) = cursor.known_name()?;
         names.push(name)?;
         kind = name_kind;
     }
-    Err(ReadFault::NoMemory)
+    unreachable!()
 }
 
 #[tactic(auto, unfolding(crate::specs::ExprRules::path_from))]
@@ -85,9 +47,9 @@ fn path_from(
     at: u32,
     scope: Scope,
 ) -> Result<(Expr, NameKind), ReadFault>
-    ensures { Gives kind_by (Plainly (spec.path_from at scope) cursor.old) result cursor.new }
+    ensures { Gives kind_view (plainly (spec.path_from at scope) cursor.old) result cursor.new }
 {
-    let (first, first_kind) = known_name(cursor)?;
+    let (first, first_kind) = cursor.known_name()?;
     let (names, kind) = names_on(alloc, cursor, first, first_kind)?;
     Ok((Expr::path(at, scope, names, false), kind))
 }
@@ -102,7 +64,7 @@ pub fn path_on(
     first: u32,
     first_kind: NameKind,
 ) -> Result<(Expr, NameKind), ReadFault>
-    ensures { Gives kind_by (Plainly (spec.path_on (first, first_kind)) cursor.old) result cursor.new }
+    ensures { Gives kind_view (plainly (spec.path_on (first, first_kind)) cursor.old) result cursor.new }
 {
     let (names, kind) = names_on(alloc, cursor, first, first_kind)?;
     Ok((Expr::path(first, Scope::Plain, names, false), kind))
@@ -114,17 +76,17 @@ pub(crate) fn any_path(
     alloc: Global,
     cursor: &mut Cursor<'_>,
 ) -> Result<(Expr, NameKind), ReadFault>
-    ensures { Gives kind_by (Plainly spec.known_path cursor.old) result cursor.new }
+    ensures { Gives kind_view (plainly spec.known_path cursor.old) result cursor.new }
 {
     match cursor.peek() {
         Some(Lexeme::Word(Word::Local)) => {
             let at = cursor.take()?;
-            expect(cursor, Mark::DoubleColon)?;
+            cursor.expect(Fixed::Mark(Mark::DoubleColon))?;
             path_from(alloc, cursor, at, Scope::Local)
         }
         Some(Lexeme::Word(Word::This)) => {
             let at = cursor.take()?;
-            expect(cursor, Mark::Dot)?;
+            cursor.expect(Fixed::Mark(Mark::Dot))?;
             path_from(alloc, cursor, at, Scope::This)
         }
         _ => {
@@ -134,9 +96,9 @@ pub(crate) fn any_path(
     }
 }
 
-/// Whether a path begins with the token.
-pub(crate) fn starts_path(lexeme: Option<Lexeme>) -> bool
-    ensures { result ≡ spec.starts_path lexeme }
+/// Whether a path begins with the token. None is the end of the text.
+pub fn starts_path(lexeme: Option<Lexeme>) -> bool
+    ensures { result ≡ spec.path_starts lexeme }
 {
     match lexeme {
         Some(Lexeme::Name(_)) => true,
@@ -148,7 +110,7 @@ pub(crate) fn starts_path(lexeme: Option<Lexeme>) -> bool
 
 /// The fault where there is no room for a path.
 pub(crate) fn no_path(cursor: &Cursor<'_>) -> ReadFault
-    ensures { result ≡ (if spec.starts_path (prog.lexeme_at cursor.now) then TooDeep (length cursor.now) else Unexpected (length cursor.now)) }
+    ensures { result ≡ (if spec.path_starts (lexeme_at cursor.now) then TooDeep (length cursor.now) else Unexpected (length cursor.now)) }
 {
     if starts_path(cursor.peek()) {
         cursor.too_deep()
@@ -165,7 +127,7 @@ pub fn known_path(
     cursor: &mut Cursor<'_>,
     room: usize,
 ) -> Result<(Expr, NameKind), ReadFault>
-    ensures { Gives kind_by (spec.a_known_path cap room cursor.old) result cursor.new }
+    ensures { Gives kind_view (spec.a_known_path cap room cursor.old) result cursor.new }
 {
     if room == 0 {
         return Err(no_path(cursor));

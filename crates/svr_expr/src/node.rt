@@ -3,24 +3,26 @@
 ghost use Rattle.std.specs.Prelude.{◌≡◌, ◌≤◌, ◌<◌, ◌+◌, ◌^◌, if◌then◌else◌, length, IfOk};
 ghost use Rattle.svr_tree.specs.ExprTree.{expr_tree, range_tree};
 ghost use Rattle.svr_reader.specs.Answers.{Gives};
-ghost use Rattle.svr_reader.specs.Calls.{cap, tall_by, talls_by};
+ghost use Rattle.svr_reader.specs.Calls.{cap, height_view, heights_view};
 ghost use Rattle.svr_reader.specs.declared.fault.ReadFault.TheVariants.{Unexpected, TooDeep};
-ghost use Rattle.svr_reader.specs.Program as prog;
+ghost use Rattle.svr_reader.specs.Outcomes.{lexeme_at};
 ghost use Rattle.svr_expr.specs.ExprRules as spec;
-ghost use Rattle.svr_expr.specs.ExprRules.{a_path, a_member, rest_of as behind_path, links_of as behind_operand};
+ghost use Rattle.svr_expr.specs.ExprRules.{a_path, a_member, rest_of_path as behind_path, rest_of_operand as behind_operand};
+ghost use Rattle.svr_expr.specs.Parts.{kind_view};
 
-use crate::link::unary_of;
+use crate::connective::unary_of;
 use crate::names::{no_path, starts_path};
-use crate::parts::Parts;
+use crate::reader::Reader;
 use crate::suffix::path_in;
 use sqlite_items::Items;
 use std::alloc::Global;
 use svr_reader::{Cursor, ReadFault};
-use svr_tree::{Expr, Lexeme, Mark, Range};
+use svr_token::{Lexeme, Mark, NameKind};
+use svr_tree::{Expr, Range, level};
 
-/// Whether an expression begins with the token.
-fn starts(lexeme: Option<Lexeme>) -> bool
-    ensures { result ≡ spec.starts lexeme }
+/// Whether an expression begins with the token. None is the end of the text.
+pub fn starts_expr(lexeme: Option<Lexeme>) -> bool
+    ensures { result ≡ spec.expr_starts lexeme }
 {
     match lexeme {
         Some(Lexeme::Literal { .. }) => true,
@@ -34,9 +36,9 @@ fn starts(lexeme: Option<Lexeme>) -> bool
 
 /// The fault where there is no room for an expression.
 fn no_expr(cursor: &Cursor<'_>) -> ReadFault
-    ensures { result ≡ (if spec.starts (prog.lexeme_at cursor.now) then TooDeep (length cursor.now) else Unexpected (length cursor.now)) }
+    ensures { result ≡ (if spec.expr_starts (lexeme_at cursor.now) then TooDeep (length cursor.now) else Unexpected (length cursor.now)) }
 {
-    if starts(cursor.peek()) {
+    if starts_expr(cursor.peek()) {
         cursor.too_deep()
     } else {
         cursor.refuse()
@@ -52,13 +54,13 @@ pub fn expr(
     room: usize,
     least: u8,
 ) -> Result<(Expr, usize), ReadFault>
-    ensures gives { Gives (tall_by expr_tree) (spec.expr cap room least cursor.old) result cursor.new }
+    ensures gives { Gives (height_view expr_tree) (spec.expr cap room least cursor.old) result cursor.new }
     ensures low { IfOk result (λ x. x.1 ≤ room) }
 {
     if room == 0 {
         return Err(no_expr(cursor));
     }
-    Parts {
+    Reader {
         alloc,
         room: room - 1,
         expr,
@@ -70,7 +72,7 @@ pub fn expr(
 ///
 /// Errors: `Unexpected` at a token that does not go on with a path, `TooDeep` at one that begins a path where there is no room for it.
 pub fn path(alloc: Global, cursor: &mut Cursor<'_>, room: usize) -> Result<(Expr, usize), ReadFault>
-    ensures gives { Gives (tall_by expr_tree) (spec.node cap room a_path cursor.old) result cursor.new }
+    ensures gives { Gives (height_view expr_tree) (spec.node cap room a_path cursor.old) result cursor.new }
     ensures low { IfOk result (λ x. x.1 ≤ room) }
 {
     if room == 0 {
@@ -87,13 +89,13 @@ pub fn member(
     cursor: &mut Cursor<'_>,
     room: usize,
 ) -> Result<(Expr, usize), ReadFault>
-    ensures gives { Gives (tall_by expr_tree) (spec.node cap room a_member cursor.old) result cursor.new }
+    ensures gives { Gives (height_view expr_tree) (spec.node cap room a_member cursor.old) result cursor.new }
     ensures low { IfOk result (λ x. x.1 ≤ room) }
 {
     if room == 0 {
         return Err(no_path(cursor));
     }
-    Parts {
+    Reader {
         alloc,
         room: room - 1,
         expr,
@@ -103,7 +105,7 @@ pub fn member(
 
 /// The indices behind a path that begins at the token `at`, has this height and was read already: the whole, and its height.
 ///
-/// Errors: as those of `member`; `NoMemory` where `room` is 0.
+/// Errors: as those of `member`.
 #[tactic(auto, unfolding(crate::specs::ExprRules::a_member_on))]
 pub fn member_on(
     alloc: Global,
@@ -113,14 +115,12 @@ pub fn member_on(
     base: Expr,
     height: usize,
 ) -> Result<(Expr, usize), ReadFault>
-    requires { height ≤ room }
-    ensures gives { Gives (tall_by expr_tree) (spec.a_member_on cap room at (tall_by expr_tree (base, height)) cursor.old) result cursor.new }
+    requires some { 1 ≤ room }
+    requires height { height ≤ room }
+    ensures gives { Gives (height_view expr_tree) (spec.a_member_on cap room at (height_view expr_tree (base, height)) cursor.old) result cursor.new }
     ensures low { IfOk result (λ x. x.1 ≤ room) }
 {
-    if room == 0 {
-        return Err(ReadFault::NoMemory);
-    }
-    Parts {
+    Reader {
         alloc,
         room: room - 1,
         expr,
@@ -128,37 +128,34 @@ pub fn member_on(
     .indices_on(cursor, at, base, height)
 }
 
-/// What stands behind the first path of an expression, which begins at the token `at`, has this height and was read already: the whole expression, and its height.
+/// What stands behind the first path of an expression, which begins at the token `at`, whose last name is of this kind, and which was read already: the whole expression, and its height.
 ///
-/// Errors: as those of `expr`; `NoMemory` where `room` is 0.
-pub fn rest_of(
+/// Errors: as those of `expr`.
+pub fn rest_of_path(
     alloc: Global,
     cursor: &mut Cursor<'_>,
     room: usize,
     at: u32,
-    first: Expr,
-    height: usize,
+    path: Expr,
+    kind: NameKind,
 ) -> Result<(Expr, usize), ReadFault>
-    requires { height ≤ room }
-    ensures gives { Gives (tall_by expr_tree) (spec.node cap room (behind_path at (tall_by expr_tree (first, height))) cursor.old) result cursor.new }
+    requires { 1 ≤ room }
+    ensures gives { Gives (height_view expr_tree) (spec.node cap room (behind_path at (kind_view (path, kind))) cursor.old) result cursor.new }
     ensures low { IfOk result (λ x. x.1 ≤ room) }
 {
-    if room == 0 {
-        return Err(ReadFault::NoMemory);
-    }
-    let parts = Parts {
+    let reader = Reader {
         alloc,
         room: room - 1,
         expr,
     };
-    let (operand, operand_height) = parts.with_suffixes(cursor, at, first, height)?;
-    parts.climb(cursor, at, 1, operand, operand_height)
+    let (operand, height) = reader.path_rest(cursor, at, path, kind)?;
+    reader.climb(cursor, at, level::IMPLICATION, operand, height)
 }
 
 /// What stands behind the first operand of an expression, which begins at the token `at`, has this height and was read already: the whole expression, and its height.
 ///
-/// Errors: as those of `expr`; `NoMemory` where `room` is 0.
-pub fn links_of(
+/// Errors: as those of `expr`.
+pub fn rest_of_operand(
     alloc: Global,
     cursor: &mut Cursor<'_>,
     room: usize,
@@ -166,19 +163,17 @@ pub fn links_of(
     first: Expr,
     height: usize,
 ) -> Result<(Expr, usize), ReadFault>
-    requires { height ≤ room }
-    ensures gives { Gives (tall_by expr_tree) (spec.node cap room (behind_operand at (tall_by expr_tree (first, height))) cursor.old) result cursor.new }
+    requires some { 1 ≤ room }
+    requires height { height ≤ room }
+    ensures gives { Gives (height_view expr_tree) (spec.node cap room (behind_operand at (height_view expr_tree (first, height))) cursor.old) result cursor.new }
     ensures low { IfOk result (λ x. x.1 ≤ room) }
 {
-    if room == 0 {
-        return Err(ReadFault::NoMemory);
-    }
-    Parts {
+    Reader {
         alloc,
         room: room - 1,
         expr,
     }
-    .climb(cursor, at, 1, first, height)
+    .climb(cursor, at, level::IMPLICATION, first, height)
 }
 
 /// Expressions of a height up to `room` with commas between them, and the height of the highest.
@@ -190,10 +185,10 @@ pub fn exprs(
     cursor: &mut Cursor<'_>,
     room: usize,
 ) -> Result<(Items<Expr>, usize), ReadFault>
-    ensures gives { Gives (talls_by expr_tree) (spec.some_exprs cap room cursor.old) result cursor.new }
+    ensures gives { Gives (heights_view expr_tree) (spec.some_exprs cap room cursor.old) result cursor.new }
     ensures low { IfOk result (λ x. x.1 ≤ room) }
 {
-    Parts { alloc, room, expr }.exprs(cursor)
+    Reader { alloc, room, expr }.exprs(cursor)
 }
 
 /// A member of a set, whose expressions have a height up to `room` (IEEE 1800-2017, A.8.3, value_range), and its height.
@@ -205,8 +200,8 @@ pub fn range(
     cursor: &mut Cursor<'_>,
     room: usize,
 ) -> Result<(Range, usize), ReadFault>
-    ensures gives { Gives (tall_by range_tree) (spec.a_range cap room cursor.old) result cursor.new }
+    ensures gives { Gives (height_view range_tree) (spec.a_range cap room cursor.old) result cursor.new }
     ensures low { IfOk result (λ x. x.1 ≤ room) }
 {
-    Parts { alloc, room, expr }.range(cursor)
+    Reader { alloc, room, expr }.range(cursor)
 }

@@ -3,19 +3,20 @@
 ghost use Rattle.std.specs.Prelude.{◌≡◌, ◌≤◌, ◌<◌, ◌+◌, ◌^◌, IfOk};
 ghost use Rattle.svr_tree.specs.ExprTree.{expr_tree};
 ghost use Rattle.svr_reader.specs.Answers.{Gives};
-ghost use Rattle.svr_reader.specs.Calls.{cap, tall_by, talls_by};
+ghost use Rattle.svr_reader.specs.Calls.{cap, height_view, heights_view};
 ghost use Rattle.svr_expr.specs.ExprRules as spec;
-ghost use Rattle.svr_expr.specs.Parts.{R, Nests};
+ghost use Rattle.svr_expr.specs.Parts.{Nests};
 
-use crate::link::unary_of;
-use crate::parts::Parts;
+use crate::connective::unary_of;
+use crate::reader::Reader;
 use sqlite_items::Items;
 use std::alloc::Global;
 use svr_operator::UnOp;
-use svr_reader::{Cursor, ReadFault};
-use svr_tree::{Expr, Lexeme, Mark, SystemName, Word};
+use svr_reader::{Cursor, Fixed, ReadFault};
+use svr_token::{Lexeme, Mark, SystemName, Word};
+use svr_tree::{Expr, level};
 
-impl<F: Fn(Global, &mut Cursor<'_>, usize, u8) -> Result<(Expr, usize), ReadFault>> Parts<F> {
+impl<F: Fn(Global, &mut Cursor<'_>, usize, u8) -> Result<(Expr, usize), ReadFault>> Reader<F> {
     /// A literal of this value, width and sign.
     #[tactic(auto, unfolding(crate::specs::ExprRules::literal))]
     fn literal(
@@ -25,7 +26,7 @@ impl<F: Fn(Global, &mut Cursor<'_>, usize, u8) -> Result<(Expr, usize), ReadFaul
         width: u8,
         signed: bool,
     ) -> Result<(Expr, usize), ReadFault>
-        ensures gives { Gives (tall_by expr_tree) (R self.now.room (spec.literal value width signed) cursor.old) result cursor.new }
+        ensures gives { Gives (height_view expr_tree) (spec.within cap self.now.room (spec.literal value width signed) cursor.old) result cursor.new }
         ensures low { IfOk result (λ x. x.1 ≤ 1) }
     {
         let at = cursor.take()?;
@@ -33,42 +34,42 @@ impl<F: Fn(Global, &mut Cursor<'_>, usize, u8) -> Result<(Expr, usize), ReadFaul
     }
 
     /// An expression in parentheses.
-    #[tactic(auto, unfolding(crate::specs::ExprRules::enclosed))]
-    fn enclosed(&self, cursor: &mut Cursor<'_>) -> Result<(Expr, usize), ReadFault>
+    #[tactic(auto, unfolding(crate::specs::ExprRules::paren_expr))]
+    fn paren_expr(&self, cursor: &mut Cursor<'_>) -> Result<(Expr, usize), ReadFault>
         requires nests { Nests self.now.room (F.pre self.now.expr) (F.post self.now.expr) }
         requires room { self.now.room + 1 < 2 ^ 64 }
-        ensures gives { Gives (tall_by expr_tree) (R self.now.room spec.enclosed cursor.old) result cursor.new }
+        ensures gives { Gives (height_view expr_tree) (spec.within cap self.now.room spec.paren_expr cursor.old) result cursor.new }
         ensures low { IfOk result (λ x. x.1 ≤ self.now.room + 1) }
     {
         let at = cursor.enter(self.room, 1)?;
-        let (arg, height) = self.part(cursor, 1)?;
-        self.expect(cursor, Mark::CloseParen)?;
+        let (arg, height) = self.part(cursor, level::IMPLICATION)?;
+        cursor.expect(Fixed::Mark(Mark::CloseParen))?;
         Ok((Expr::paren(self.alloc, at, arg)?, height + 1))
     }
 
     /// `$signed(..)` or `$unsigned(..)`.
-    #[tactic(auto, unfolding(crate::specs::ExprRules::signing))]
-    fn signing(
+    #[tactic(auto, unfolding(crate::specs::ExprRules::sign_expr))]
+    fn sign_expr(
         &self,
         cursor: &mut Cursor<'_>,
         function: SystemName,
     ) -> Result<(Expr, usize), ReadFault>
         requires nests { Nests self.now.room (F.pre self.now.expr) (F.post self.now.expr) }
         requires room { self.now.room + 1 < 2 ^ 64 }
-        ensures gives { Gives (tall_by expr_tree) (R self.now.room (spec.signing function) cursor.old) result cursor.new }
+        ensures gives { Gives (height_view expr_tree) (spec.within cap self.now.room (spec.sign_expr function) cursor.old) result cursor.new }
         ensures low { IfOk result (λ x. x.1 ≤ self.now.room + 1) }
     {
         let at = cursor.enter(self.room, 1)?;
-        self.expect(cursor, Mark::OpenParen)?;
-        let (arg, height) = self.part(cursor, 1)?;
-        self.expect(cursor, Mark::CloseParen)?;
+        cursor.expect(Fixed::Mark(Mark::OpenParen))?;
+        let (arg, height) = self.part(cursor, level::IMPLICATION)?;
+        cursor.expect(Fixed::Mark(Mark::CloseParen))?;
         let signed = is_signed(function);
         Ok((Expr::sign(self.alloc, at, signed, arg)?, height + 1))
     }
 
     /// The parts that are copied, behind their number.
-    #[tactic(auto, unfolding(crate::specs::ExprRules::copied))]
-    fn copied(
+    #[tactic(auto, unfolding(crate::specs::ExprRules::copies_on))]
+    fn copies_on(
         &self,
         cursor: &mut Cursor<'_>,
         at: u32,
@@ -78,19 +79,19 @@ impl<F: Fn(Global, &mut Cursor<'_>, usize, u8) -> Result<(Expr, usize), ReadFaul
         requires nests { Nests self.now.room (F.pre self.now.expr) (F.post self.now.expr) }
         requires room { self.now.room + 1 < 2 ^ 64 }
         requires count { count_height ≤ self.now.room }
-        ensures gives { Gives (tall_by expr_tree) (R self.now.room (spec.copied at (tall_by expr_tree (count, count_height))) cursor.old) result cursor.new }
+        ensures gives { Gives (height_view expr_tree) (spec.within cap self.now.room (spec.copies_on at (height_view expr_tree (count, count_height))) cursor.old) result cursor.new }
         ensures low { IfOk result (λ x. x.1 ≤ self.now.room + 1) }
     {
         let (parts, height) = self.exprs(cursor)?;
-        self.expect(cursor, Mark::CloseBrace)?;
-        self.expect(cursor, Mark::CloseBrace)?;
+        cursor.expect(Fixed::Mark(Mark::CloseBrace))?;
+        cursor.expect(Fixed::Mark(Mark::CloseBrace))?;
         let whole = Expr::copies(self.alloc, at, count, parts)?;
         Ok((whole, count_height.max(height) + 1))
     }
 
     /// The end of a concatenation of these parts.
-    #[tactic(auto, unfolding(crate::specs::ExprRules::joined))]
-    fn joined(
+    #[tactic(auto, unfolding(crate::specs::ExprRules::join_on))]
+    fn join_on(
         &self,
         cursor: &mut Cursor<'_>,
         at: u32,
@@ -99,46 +100,46 @@ impl<F: Fn(Global, &mut Cursor<'_>, usize, u8) -> Result<(Expr, usize), ReadFaul
     ) -> Result<(Expr, usize), ReadFault>
         requires room { self.now.room + 1 < 2 ^ 64 }
         requires parts { height ≤ self.now.room }
-        ensures gives { Gives (tall_by expr_tree) (R self.now.room (spec.joined at (talls_by expr_tree (parts, height))) cursor.old) result cursor.new }
+        ensures gives { Gives (height_view expr_tree) (spec.within cap self.now.room (spec.join_on at (heights_view expr_tree (parts, height))) cursor.old) result cursor.new }
         ensures low { IfOk result (λ x. x.1 ≤ self.now.room + 1) }
     {
-        self.expect(cursor, Mark::CloseBrace)?;
+        cursor.expect(Fixed::Mark(Mark::CloseBrace))?;
         Ok((Expr::join(at, parts), height + 1))
     }
 
     /// A concatenation or a replication.
-    #[tactic(auto, unfolding(crate::specs::ExprRules::braced))]
-    fn braced(&self, cursor: &mut Cursor<'_>) -> Result<(Expr, usize), ReadFault>
+    #[tactic(auto, unfolding(crate::specs::ExprRules::brace_expr))]
+    fn brace_expr(&self, cursor: &mut Cursor<'_>) -> Result<(Expr, usize), ReadFault>
         requires nests { Nests self.now.room (F.pre self.now.expr) (F.post self.now.expr) }
         requires room { self.now.room + 1 < 2 ^ 64 }
-        ensures gives { Gives (tall_by expr_tree) (R self.now.room spec.braced cursor.old) result cursor.new }
+        ensures gives { Gives (height_view expr_tree) (spec.within cap self.now.room spec.brace_expr cursor.old) result cursor.new }
         ensures low { IfOk result (λ x. x.1 ≤ self.now.room + 1) }
     {
         let at = cursor.enter(self.room, 1)?;
-        let (first, height) = self.part(cursor, 1)?;
-        if self.eat(cursor, Mark::OpenBrace)? {
-            return self.copied(cursor, at, first, height);
+        let (first, height) = self.part(cursor, level::IMPLICATION)?;
+        if cursor.eat(Fixed::Mark(Mark::OpenBrace)) {
+            return self.copies_on(cursor, at, first, height);
         }
         let mut parts = Items::new(self.alloc);
         parts.push(first)?;
-        if self.eat(cursor, Mark::Comma)? {
+        if cursor.eat(Fixed::Mark(Mark::Comma)) {
             let (more, all_height) = self.exprs_on(cursor, parts, height)?;
-            self.joined(cursor, at, more, all_height)
+            self.join_on(cursor, at, more, all_height)
         } else {
-            self.joined(cursor, at, parts, height)
+            self.join_on(cursor, at, parts, height)
         }
     }
 
     /// A unary operator and its operand.
-    #[tactic(auto, unfolding(crate::specs::ExprRules::negated))]
-    fn negated(&self, cursor: &mut Cursor<'_>, op: UnOp) -> Result<(Expr, usize), ReadFault>
+    #[tactic(auto, unfolding(crate::specs::ExprRules::unary_expr))]
+    fn unary_expr(&self, cursor: &mut Cursor<'_>, op: UnOp) -> Result<(Expr, usize), ReadFault>
         requires nests { Nests self.now.room (F.pre self.now.expr) (F.post self.now.expr) }
         requires room { self.now.room + 1 < 2 ^ 64 }
-        ensures gives { Gives (tall_by expr_tree) (R self.now.room (spec.negated op) cursor.old) result cursor.new }
+        ensures gives { Gives (height_view expr_tree) (spec.within cap self.now.room (spec.unary_expr op) cursor.old) result cursor.new }
         ensures low { IfOk result (λ x. x.1 ≤ self.now.room + 1) }
     {
         let at = cursor.enter(self.room, 1)?;
-        let (arg, height) = self.part(cursor, 13)?;
+        let (arg, height) = self.part(cursor, level::UNARY)?;
         Ok((Expr::unary(self.alloc, at, op, arg)?, height + 1))
     }
 
@@ -147,7 +148,7 @@ impl<F: Fn(Global, &mut Cursor<'_>, usize, u8) -> Result<(Expr, usize), ReadFaul
     pub fn prefix(&self, cursor: &mut Cursor<'_>) -> Result<(Expr, usize), ReadFault>
         requires nests { Nests self.now.room (F.pre self.now.expr) (F.post self.now.expr) }
         requires room { self.now.room + 1 < 2 ^ 64 }
-        ensures gives { Gives (tall_by expr_tree) (R self.now.room spec.prefix cursor.old) result cursor.new }
+        ensures gives { Gives (height_view expr_tree) (spec.within cap self.now.room spec.prefix cursor.old) result cursor.new }
         ensures low { IfOk result (λ x. x.1 ≤ self.now.room + 1) }
     {
         match cursor.peek() {
@@ -158,14 +159,14 @@ impl<F: Fn(Global, &mut Cursor<'_>, usize, u8) -> Result<(Expr, usize), ReadFaul
                     signed,
                 },
             ) => self.literal(cursor, value, width, signed),
-            Some(Lexeme::Name(_)) => self.selected(cursor),
-            Some(Lexeme::Word(Word::Local)) => self.selected(cursor),
-            Some(Lexeme::Word(Word::This)) => self.selected(cursor),
-            Some(Lexeme::System(function)) => self.signing(cursor, function),
-            Some(Lexeme::Mark(Mark::OpenParen)) => self.enclosed(cursor),
-            Some(Lexeme::Mark(Mark::OpenBrace)) => self.braced(cursor),
+            Some(Lexeme::Name(_)) => self.path_expr(cursor),
+            Some(Lexeme::Word(Word::Local)) => self.path_expr(cursor),
+            Some(Lexeme::Word(Word::This)) => self.path_expr(cursor),
+            Some(Lexeme::System(function)) => self.sign_expr(cursor, function),
+            Some(Lexeme::Mark(Mark::OpenParen)) => self.paren_expr(cursor),
+            Some(Lexeme::Mark(Mark::OpenBrace)) => self.brace_expr(cursor),
             Some(Lexeme::Mark(mark)) => match unary_of(mark) {
-                Some(op) => self.negated(cursor, op),
+                Some(op) => self.unary_expr(cursor, op),
                 None => Err(cursor.refuse()),
             },
             _ => Err(cursor.refuse()),

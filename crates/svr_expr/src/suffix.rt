@@ -2,30 +2,31 @@
 
 ghost use Rattle.std.specs.Prelude.{◌≡◌, ◌≤◌, ◌<◌, ◌+◌, ◌^◌, IfOk};
 ghost use Rattle.svr_tree.specs.ExprTree.{expr_tree};
-ghost use Rattle.svr_reader.specs.Answers.{Gives};
-ghost use Rattle.svr_reader.specs.Calls.{cap, tall_by};
+ghost use Rattle.svr_reader.specs.Answers.{Gives, plainly};
+ghost use Rattle.svr_reader.specs.Calls.{cap, height_view};
 ghost use Rattle.svr_reader.specs.Program.{loop};
 ghost use Rattle.svr_expr.specs.ExprRules as spec;
-ghost use Rattle.svr_expr.specs.Parts.{R, Plainly, Nests, last_of};
+ghost use Rattle.svr_expr.specs.Parts.{Nests, last_of};
 
 use crate::names::any_path;
-use crate::parts::Parts;
+use crate::reader::Reader;
 use std::alloc::Global;
-use svr_reader::{Cursor, Fixed, ReadFault, TURNS};
-use svr_tree::{Expr, Lexeme, Mark};
+use svr_reader::{Cursor, Fixed, ReadFault};
+use svr_token::{Lexeme, Mark};
+use svr_tree::{Expr, level};
 
 /// A path, and its height.
 #[tactic(auto, unfolding(crate::specs::ExprRules::path_in))]
 pub(crate) fn path_in(alloc: Global, cursor: &mut Cursor<'_>) -> Result<(Expr, usize), ReadFault>
-    ensures gives { Gives (tall_by expr_tree) (Plainly spec.path_in cursor.old) result cursor.new }
+    ensures gives { Gives (height_view expr_tree) (plainly spec.path_in cursor.old) result cursor.new }
     ensures low { IfOk result (λ x. x.1 ≤ 1) }
 {
     let (found, _) = any_path(alloc, cursor)?;
     Ok((found, 1))
 }
 
-/// The same, with `()` behind it.
-fn with_parens(expr: Expr) -> Expr
+/// A path or a select with `()` behind it; any other expression as it is.
+pub fn with_parens(expr: Expr) -> Expr
     ensures { expr_tree result ≡ spec.with_parens (expr_tree expr) }
 {
     match expr {
@@ -52,7 +53,7 @@ fn with_parens(expr: Expr) -> Expr
     }
 }
 
-impl<F: Fn(Global, &mut Cursor<'_>, usize, u8) -> Result<(Expr, usize), ReadFault>> Parts<F> {
+impl<F: Fn(Global, &mut Cursor<'_>, usize, u8) -> Result<(Expr, usize), ReadFault>> Reader<F> {
     /// `()`, behind what can be called.
     #[tactic(auto, unfolding(crate::specs::ExprRules::parens_on))]
     fn parens_on(
@@ -61,17 +62,17 @@ impl<F: Fn(Global, &mut Cursor<'_>, usize, u8) -> Result<(Expr, usize), ReadFaul
         base: Expr,
         height: usize,
     ) -> Result<(Expr, usize), ReadFault>
-        ensures gives { Gives (tall_by expr_tree) (R self.now.room (spec.parens_on (tall_by expr_tree (base, height))) cursor.old) result cursor.new }
+        ensures gives { Gives (height_view expr_tree) (spec.within cap self.now.room (spec.parens_on (height_view expr_tree (base, height))) cursor.old) result cursor.new }
         ensures low { IfOk result (λ x. x.1 ≡ height) }
     {
         cursor.take()?;
-        self.expect(cursor, Mark::CloseParen)?;
+        cursor.expect(Fixed::Mark(Mark::CloseParen))?;
         Ok((with_parens(base), height))
     }
 
     /// An index, behind a path and its indices.
-    #[tactic(auto, unfolding(crate::specs::ExprRules::indexed))]
-    fn indexed(
+    #[tactic(auto, unfolding(crate::specs::ExprRules::index_on))]
+    fn index_on(
         &self,
         cursor: &mut Cursor<'_>,
         at: u32,
@@ -80,12 +81,13 @@ impl<F: Fn(Global, &mut Cursor<'_>, usize, u8) -> Result<(Expr, usize), ReadFaul
     ) -> Result<(Expr, usize), ReadFault>
         requires nests { Nests self.now.room (F.pre self.now.expr) (F.post self.now.expr) }
         requires room { self.now.room + 1 < 2 ^ 64 }
-        ensures gives { Gives (tall_by expr_tree) (R self.now.room (spec.indexed at (tall_by expr_tree (base, height))) cursor.old) result cursor.new }
+        requires base { height ≤ self.now.room + 1 }
+        ensures gives { Gives (height_view expr_tree) (spec.within cap self.now.room (spec.index_on at (height_view expr_tree (base, height))) cursor.old) result cursor.new }
         ensures low { IfOk result (λ x. x.1 ≤ self.now.room + 1) }
     {
         cursor.enter(self.room, height)?;
-        let (index, index_height) = self.part(cursor, 1)?;
-        self.expect(cursor, Mark::CloseBracket)?;
+        let (index, index_height) = self.part(cursor, level::IMPLICATION)?;
+        cursor.expect(Fixed::Mark(Mark::CloseBracket))?;
         Ok((
             Expr::bit_select(self.alloc, at, base, index, false)?,
             height.max(index_height) + 1,
@@ -103,20 +105,21 @@ impl<F: Fn(Global, &mut Cursor<'_>, usize, u8) -> Result<(Expr, usize), ReadFaul
         requires nests { Nests self.now.room (F.pre self.now.expr) (F.post self.now.expr) }
         requires room { self.now.room + 1 < 2 ^ 64 }
         requires first { first_height ≤ self.now.room + 1 }
-        ensures gives { Gives (tall_by expr_tree) (R self.now.room (loop (spec.member_step at) (tall_by expr_tree (first, first_height))) cursor.old) result cursor.new }
+        ensures gives { Gives (height_view expr_tree) (spec.within cap self.now.room (loop (spec.member_step at) (height_view expr_tree (first, first_height))) cursor.old) result cursor.new }
         ensures low { IfOk result (λ x. x.1 ≤ self.now.room + 1) }
     {
         let mut base = first;
         let mut height = first_height;
-        for _turn in 0..TURNS {
+        let left = cursor.left();
+        for _turn in 0..left + 1 {
             if !cursor.sees(Fixed::Mark(Mark::OpenBracket)) {
                 return Ok((base, height));
             }
-            let (longer, longer_height) = self.indexed(cursor, at, base, height)?;
+            let (longer, longer_height) = self.index_on(cursor, at, base, height)?;
             base = longer;
             height = longer_height;
         }
-        Err(ReadFault::NoMemory)
+        unreachable!()
     }
 
     /// A path and its indices.
@@ -124,7 +127,7 @@ impl<F: Fn(Global, &mut Cursor<'_>, usize, u8) -> Result<(Expr, usize), ReadFaul
     pub fn member_in(&self, cursor: &mut Cursor<'_>) -> Result<(Expr, usize), ReadFault>
         requires nests { Nests self.now.room (F.pre self.now.expr) (F.post self.now.expr) }
         requires room { self.now.room + 1 < 2 ^ 64 }
-        ensures gives { Gives (tall_by expr_tree) (R self.now.room spec.member_in cursor.old) result cursor.new }
+        ensures gives { Gives (height_view expr_tree) (spec.within cap self.now.room spec.member_in cursor.old) result cursor.new }
         ensures low { IfOk result (λ x. x.1 ≤ self.now.room + 1) }
     {
         let at = cursor.at();
@@ -144,11 +147,11 @@ impl<F: Fn(Global, &mut Cursor<'_>, usize, u8) -> Result<(Expr, usize), ReadFaul
         requires nests { Nests self.now.room (F.pre self.now.expr) (F.post self.now.expr) }
         requires room { self.now.room + 1 < 2 ^ 64 }
         requires height { height ≤ self.now.room }
-        ensures gives { Gives (tall_by expr_tree) (R self.now.room (last_of at (expr_tree base) (expr_tree first) height) cursor.old) result cursor.new }
+        ensures gives { Gives (height_view expr_tree) (spec.within cap self.now.room (last_of at (expr_tree base) (expr_tree first) height) cursor.old) result cursor.new }
         ensures low { IfOk result (λ x. x.1 ≤ self.now.room + 1) }
     {
-        let (last, last_height) = self.part(cursor, 1)?;
-        self.expect(cursor, Mark::CloseBracket)?;
+        let (last, last_height) = self.part(cursor, level::IMPLICATION)?;
+        cursor.expect(Fixed::Mark(Mark::CloseBracket))?;
         let whole = Expr::part_select(self.alloc, at, base, first, last, false)?;
         Ok((whole, height.max(last_height) + 1))
     }
@@ -164,18 +167,19 @@ impl<F: Fn(Global, &mut Cursor<'_>, usize, u8) -> Result<(Expr, usize), ReadFaul
     ) -> Result<(Expr, usize), ReadFault>
         requires nests { Nests self.now.room (F.pre self.now.expr) (F.post self.now.expr) }
         requires room { self.now.room + 1 < 2 ^ 64 }
-        ensures gives { Gives (tall_by expr_tree) (R self.now.room (spec.select_on at (tall_by expr_tree (base, height))) cursor.old) result cursor.new }
+        requires base { height ≤ self.now.room + 1 }
+        ensures gives { Gives (height_view expr_tree) (spec.within cap self.now.room (spec.select_on at (height_view expr_tree (base, height))) cursor.old) result cursor.new }
         ensures low { IfOk result (λ x. x.1 ≤ self.now.room + 1) }
     {
         cursor.enter(self.room, height)?;
-        let (first, first_height) = self.part(cursor, 1)?;
-        let tall = height.max(first_height);
-        if self.eat(cursor, Mark::Colon)? {
-            return self.part_select_on(cursor, at, base, first, tall);
+        let (first, first_height) = self.part(cursor, level::IMPLICATION)?;
+        let height = height.max(first_height);
+        if cursor.eat(Fixed::Mark(Mark::Colon)) {
+            return self.part_select_on(cursor, at, base, first, height);
         }
-        self.expect(cursor, Mark::CloseBracket)?;
+        cursor.expect(Fixed::Mark(Mark::CloseBracket))?;
         let whole = Expr::bit_select(self.alloc, at, base, first, false)?;
-        Ok((whole, tall + 1))
+        Ok((whole, height + 1))
     }
 
     /// The selects behind a path that begins at this token, and then `()`.
@@ -190,12 +194,13 @@ impl<F: Fn(Global, &mut Cursor<'_>, usize, u8) -> Result<(Expr, usize), ReadFaul
         requires nests { Nests self.now.room (F.pre self.now.expr) (F.post self.now.expr) }
         requires room { self.now.room + 1 < 2 ^ 64 }
         requires first { first_height ≤ self.now.room + 1 }
-        ensures gives { Gives (tall_by expr_tree) (R self.now.room (spec.with_suffixes at (tall_by expr_tree (first, first_height))) cursor.old) result cursor.new }
+        ensures gives { Gives (height_view expr_tree) (spec.within cap self.now.room (spec.with_suffixes at (height_view expr_tree (first, first_height))) cursor.old) result cursor.new }
         ensures low { IfOk result (λ x. x.1 ≤ self.now.room + 1) }
     {
         let mut base = first;
         let mut height = first_height;
-        for _turn in 0..TURNS {
+        let left = cursor.left();
+        for _turn in 0..left + 1 {
             match cursor.peek() {
                 Some(Lexeme::Mark(Mark::OpenBracket)) => {
                     let (longer, longer_height) = self.select_on(cursor, at, base, height)?;
@@ -206,19 +211,6 @@ impl<F: Fn(Global, &mut Cursor<'_>, usize, u8) -> Result<(Expr, usize), ReadFaul
                 _ => return Ok((base, height)),
             }
         }
-        Err(ReadFault::NoMemory)
-    }
-
-    /// A path and what stands behind it.
-    #[tactic(auto, using(crate::proofs::Anywhere::path_in_same), unfolding(crate::specs::ExprRules::selected))]
-    pub fn selected(&self, cursor: &mut Cursor<'_>) -> Result<(Expr, usize), ReadFault>
-        requires nests { Nests self.now.room (F.pre self.now.expr) (F.post self.now.expr) }
-        requires room { self.now.room + 1 < 2 ^ 64 }
-        ensures gives { Gives (tall_by expr_tree) (R self.now.room spec.selected cursor.old) result cursor.new }
-        ensures low { IfOk result (λ x. x.1 ≤ self.now.room + 1) }
-    {
-        let at = cursor.at();
-        let (base, height) = path_in(self.alloc, cursor)?;
-        self.with_suffixes(cursor, at, base, height)
+        unreachable!()
     }
 }

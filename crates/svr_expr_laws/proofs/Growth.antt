@@ -1,4 +1,4 @@
--- Expressions are read from the left; more room and more turns keep what was read.
+-- More room and more turns keep what was read.
 use Rattle.std.proofs.Common.{ℕ, zero, suc, ◌≤◌, Bool, true, false, Option, Some, None, refl, arith}
 use Rattle.svr_token.specs.declared.Lexeme.{Lexeme}
 use Rattle.svr_token.specs.declared.Lexeme.TheVariants as lexeme
@@ -8,92 +8,64 @@ use Rattle.svr_token.specs.declared.Mark.TheVariants as m
 use Rattle.svr_token.specs.declared.NameKind.{NameKind}
 use Rattle.svr_operator.specs.declared.UnOp.{UnOp}
 use Rattle.svr_tree.specs.ExprTree.{ExprTree}
-use Rattle.svr_reader.specs.Program.{Parser}
-use Rattle.svr_reader.specs.Lists.{Tall}
+use Rattle.svr_reader.specs.Program.{known_name}
+use Rattle.svr_reader.specs.Outcomes.{Parser}
+use Rattle.svr_reader.specs.Lists.{WithHeight}
 use Rattle.svr_reader.proofs.Local.{IsLocal, local_run}
 use Rattle.svr_reader.proofs.Growth.{Grows, Rooms, grows_run}
-use Rattle.svr_reader.proofs.Rooms.{none_local, grows_none, OpensAt, OpensBy, opens_refuse, opens_take, opens_enter, opens_bind, opens_here, opens_peek, past_of, refused_of}
+use Rattle.svr_reader.proofs.Rooms.{none_local, grows_none, OpensAt, OpensBy, opens_refuse, opens_take, opens_name, opens_no_name, opens_enter, opens_bind, opens_here, opens_peek, past_of, refused_of}
 use Rattle.svr_reader.proofs.Layers.{IsGrowing}
-use Rattle.svr_expr.specs.Links.{unary_of}
-use Rattle.svr_expr.specs.ExprRules.{Reader, known_name, path_from, plain_path, local_path, this_path, known_path_by, known_path, path_in, member_in, selected, exprs, range, literal, enclosed, signing, braced, negated, negated_by, prefix_by, prefix, expr_in, Node, an_expr, a_path, a_member, rest_of, links_of, node_in, is_operator, starts_path, starts, no_node, node, expr, a_known_path, some_exprs, a_range}
-
--- ---- locality
-
-none_node_local : (k : Node) → IsLocal (no_node k)
-none_node_local (an_expr least) = none_local (Tall ExprTree) starts
-none_node_local a_path = none_local (Tall ExprTree) starts_path
-none_node_local a_member = none_local (Tall ExprTree) starts_path
-none_node_local (rest_of at first) = record { at = λ i. tt }
-none_node_local (links_of at first) = record { at = λ i. tt }
-
-pub local_node : (most r : ℕ) (k : Node) → IsLocal (node most r k)
-unfolding node
-local_node most zero k = none_node_local k
-local_node most (suc r) k = local_run most r (expr most r) (λ least. local_node most r (an_expr least)) (node_in k)
-
-pub local_expr : (most r least : ℕ) → IsLocal (expr most r least)
-local_expr most r least = local_node most r (an_expr least)
-
-pub local_known_path : (most r : ℕ) → IsLocal (a_known_path most r)
-unfolding a_known_path
-local_known_path most zero = none_local (ExprTree × NameKind) starts_path
-local_known_path most (suc r) = local_run most r (expr most r) (local_expr most r) known_path
-
-pub local_exprs : (most r : ℕ) → IsLocal (some_exprs most r)
-unfolding some_exprs
-local_exprs most r = local_run most r (expr most r) (local_expr most r) exprs
-
-pub local_range : (most r : ℕ) → IsLocal (a_range most r)
-unfolding a_range
-local_range most r = local_run most r (expr most r) (local_expr most r) range
+use Rattle.svr_expr.proofs.Local.{local_node, local_expr}
+use Rattle.svr_expr.specs.Connectives.{unary_of}
+use Rattle.svr_expr.specs.ExprRules.{Rule, path_from, plain_path, local_path, this_path, known_path_by, known_path, path_in, member_in, path_expr, exprs, range, literal, paren_expr, sign_expr, brace_expr, unary_expr, unary_by, prefix_by, prefix, expr_in, Node, an_expr, a_path, a_member, rest_of_path, rest_of_operand, node_in, is_operator, path_starts, expr_starts, no_node, node, expr, a_known_path, some_exprs, a_range}
 
 -- ---- what is done with the first token, where there is room
 
-module _ (most r : ℕ) (sub : ℕ → Parser (Tall ExprTree)) (ls : (least : ℕ) → IsLocal (sub least)) where
-  abbrev O : {A : Type 0} → Option Lexeme → Bool → Reader A → Type 0
+module _ (most r : ℕ) (sub : ℕ → Parser (WithHeight ExprTree)) (ls : (least : ℕ) → IsLocal (sub least)) where
+  abbrev O : {A : Type 0} → Option Lexeme → Bool → Rule A → Type 0
   O q b p = OpensAt most r sub ls q b p
 
-  path_by_opens : (q : Option Lexeme) → O q (starts_path q) (known_path_by q)
-  unfolding local_path this_path plain_path path_from known_name
+  path_by_opens : (q : Option Lexeme) → O q (path_starts q) (known_path_by q)
+  unfolding local_path this_path plain_path path_from
   path_by_opens (Some (lexeme.Word w.Local)) = opens_take most r sub ls
   path_by_opens (Some (lexeme.Word w.This)) = opens_take most r sub ls
-  path_by_opens (Some (lexeme.Name k)) = opens_here most r sub ls (λ n. opens_bind most r sub ls (opens_peek most r sub ls (opens_take most r sub ls)))
-  path_by_opens _ = opens_here most r sub ls (λ n. opens_bind most r sub ls (opens_peek most r sub ls (opens_refuse most r sub ls)))
+  path_by_opens (Some (lexeme.Name k)) = opens_here most r sub ls (λ n. opens_bind most r sub ls (opens_name most r sub ls))
+  path_by_opens _ = opens_here most r sub ls (λ n. opens_bind most r sub ls (opens_no_name most r sub ls (λ i. refl)))
 
-  path_opens : (q : Option Lexeme) → O q (starts_path q) known_path
+  path_opens : (q : Option Lexeme) → O q (path_starts q) known_path
   unfolding known_path
   path_opens q = opens_peek most r sub ls (path_by_opens q)
 
-  path_in_opens : (q : Option Lexeme) → O q (starts_path q) path_in
+  path_in_opens : (q : Option Lexeme) → O q (path_starts q) path_in
   unfolding path_in
   path_in_opens q = opens_bind most r sub ls (path_opens q)
 
-  member_opens : (q : Option Lexeme) → O q (starts_path q) member_in
+  member_opens : (q : Option Lexeme) → O q (path_starts q) member_in
   unfolding member_in
   member_opens q = opens_here most r sub ls (λ n. opens_bind most r sub ls (path_in_opens q))
 
-  selected_opens : (q : Option Lexeme) → O q (starts_path q) selected
-  unfolding selected
-  selected_opens q = opens_here most r sub ls (λ n. opens_bind most r sub ls (path_in_opens q))
+  path_expr_opens : (q : Option Lexeme) → O q (path_starts q) path_expr
+  unfolding path_expr
+  path_expr_opens q = opens_here most r sub ls (λ n. opens_bind most r sub ls (path_opens q))
 
-  negated_opens : 1 ≤ r → (k : Mark) (op : Option UnOp) → O (Some (lexeme.Mark k)) (is_operator op) (negated_by op)
-  unfolding negated
-  negated_opens fits k (Some op) = opens_enter most r sub ls fits
-  negated_opens fits k None = opens_refuse most r sub ls
+  unary_expr_opens : 1 ≤ r → (k : Mark) (op : Option UnOp) → O (Some (lexeme.Mark k)) (is_operator op) (unary_by op)
+  unfolding unary_expr
+  unary_expr_opens fits k (Some op) = opens_enter most r sub ls fits
+  unary_expr_opens fits k None = opens_refuse most r sub ls
 
-  prefix_by_opens : 1 ≤ r → (q : Option Lexeme) → O q (starts q) (prefix_by q)
-  unfolding literal signing enclosed braced
+  prefix_by_opens : 1 ≤ r → (q : Option Lexeme) → O q (expr_starts q) (prefix_by q)
+  unfolding literal sign_expr paren_expr brace_expr
   prefix_by_opens fits (Some (lexeme.Literal v width signed)) = opens_take most r sub ls
-  prefix_by_opens fits (Some (lexeme.Name k)) = selected_opens (Some (lexeme.Name k))
-  prefix_by_opens fits (Some (lexeme.Word w.Local)) = selected_opens (Some (lexeme.Word w.Local))
-  prefix_by_opens fits (Some (lexeme.Word w.This)) = selected_opens (Some (lexeme.Word w.This))
+  prefix_by_opens fits (Some (lexeme.Name k)) = path_expr_opens (Some (lexeme.Name k))
+  prefix_by_opens fits (Some (lexeme.Word w.Local)) = path_expr_opens (Some (lexeme.Word w.Local))
+  prefix_by_opens fits (Some (lexeme.Word w.This)) = path_expr_opens (Some (lexeme.Word w.This))
   prefix_by_opens fits (Some (lexeme.System s)) = opens_enter most r sub ls fits
   prefix_by_opens fits (Some (lexeme.Mark m.OpenParen)) = opens_enter most r sub ls fits
   prefix_by_opens fits (Some (lexeme.Mark m.OpenBrace)) = opens_enter most r sub ls fits
-  prefix_by_opens fits (Some (lexeme.Mark k)) = negated_opens fits k (unary_of k)
+  prefix_by_opens fits (Some (lexeme.Mark k)) = unary_expr_opens fits k (unary_of k)
   prefix_by_opens fits _ = opens_refuse most r sub ls
 
-  pub expr_opens : 1 ≤ r → (least : ℕ) → OpensBy most r sub ls starts (expr_in least)
+  pub expr_opens : 1 ≤ r → (least : ℕ) → OpensBy most r sub ls expr_starts (expr_in least)
   unfolding expr_in prefix
   expr_opens fits least = record { opens = λ q. opens_here most r sub ls (λ n. opens_bind most r sub ls (opens_peek most r sub ls (prefix_by_opens fits q))) }
 
@@ -103,17 +75,17 @@ none_grows : (wider : Bool) (n2 r2 : ℕ) → Rooms wider 0 r2 → (k : Node) �
 unfolding node
 none_grows true n2 zero rooms k = absurd (omega (arith, rooms))
 none_grows true n2 (suc r2) rooms (an_expr least) = let o = expr_opens n2 r2 (expr n2 r2) (local_expr n2 r2) (omega (arith, rooms)) least in
-    grows_none (Tall ExprTree) starts true _ (λ e. absurd (cc)) (λ _ i h. past_of n2 r2 (expr n2 r2) (local_expr n2 r2) o i h) (λ _ i h. refused_of n2 r2 (expr n2 r2) (local_expr n2 r2) o i h)
-none_grows true n2 (suc r2) rooms a_path = let o : OpensBy n2 r2 (expr n2 r2) (local_expr n2 r2) starts_path path_in = record { opens = path_in_opens n2 r2 (expr n2 r2) (local_expr n2 r2) } in
-    grows_none (Tall ExprTree) starts_path true _ (λ e. absurd (cc)) (λ _ i h. past_of n2 r2 (expr n2 r2) (local_expr n2 r2) o i h) (λ _ i h. refused_of n2 r2 (expr n2 r2) (local_expr n2 r2) o i h)
-none_grows true n2 (suc r2) rooms a_member = let o : OpensBy n2 r2 (expr n2 r2) (local_expr n2 r2) starts_path member_in = record { opens = member_opens n2 r2 (expr n2 r2) (local_expr n2 r2) } in
-    grows_none (Tall ExprTree) starts_path true _ (λ e. absurd (cc)) (λ _ i h. past_of n2 r2 (expr n2 r2) (local_expr n2 r2) o i h) (λ _ i h. refused_of n2 r2 (expr n2 r2) (local_expr n2 r2) o i h)
-none_grows false n2 zero rooms (an_expr least) = grows_none (Tall ExprTree) starts false _ (λ _ i. refl) (λ e. absurd (cc)) (λ e. absurd (cc))
-none_grows false n2 zero rooms a_path = grows_none (Tall ExprTree) starts_path false _ (λ _ i. refl) (λ e. absurd (cc)) (λ e. absurd (cc))
-none_grows false n2 zero rooms a_member = grows_none (Tall ExprTree) starts_path false _ (λ _ i. refl) (λ e. absurd (cc)) (λ e. absurd (cc))
+    grows_none (WithHeight ExprTree) expr_starts true _ (λ e. absurd (cc)) (λ _ i h. past_of n2 r2 (expr n2 r2) (local_expr n2 r2) o i h) (λ _ i h. refused_of n2 r2 (expr n2 r2) (local_expr n2 r2) o i h)
+none_grows true n2 (suc r2) rooms a_path = let o : OpensBy n2 r2 (expr n2 r2) (local_expr n2 r2) path_starts path_in = record { opens = path_in_opens n2 r2 (expr n2 r2) (local_expr n2 r2) } in
+    grows_none (WithHeight ExprTree) path_starts true _ (λ e. absurd (cc)) (λ _ i h. past_of n2 r2 (expr n2 r2) (local_expr n2 r2) o i h) (λ _ i h. refused_of n2 r2 (expr n2 r2) (local_expr n2 r2) o i h)
+none_grows true n2 (suc r2) rooms a_member = let o : OpensBy n2 r2 (expr n2 r2) (local_expr n2 r2) path_starts member_in = record { opens = member_opens n2 r2 (expr n2 r2) (local_expr n2 r2) } in
+    grows_none (WithHeight ExprTree) path_starts true _ (λ e. absurd (cc)) (λ _ i h. past_of n2 r2 (expr n2 r2) (local_expr n2 r2) o i h) (λ _ i h. refused_of n2 r2 (expr n2 r2) (local_expr n2 r2) o i h)
+none_grows false n2 zero rooms (an_expr least) = grows_none (WithHeight ExprTree) expr_starts false _ (λ _ i. refl) (λ e. absurd (cc)) (λ e. absurd (cc))
+none_grows false n2 zero rooms a_path = grows_none (WithHeight ExprTree) path_starts false _ (λ _ i. refl) (λ e. absurd (cc)) (λ e. absurd (cc))
+none_grows false n2 zero rooms a_member = grows_none (WithHeight ExprTree) path_starts false _ (λ _ i. refl) (λ e. absurd (cc)) (λ e. absurd (cc))
 none_grows false n2 (suc r2) rooms k = absurd (omega (arith, rooms))
-none_grows wider n2 r2 rooms (rest_of at first) = record { at = λ i. tt }
-none_grows wider n2 r2 rooms (links_of at first) = record { at = λ i. tt }
+none_grows wider n2 r2 rooms (rest_of_path at first) = record { at = λ i. tt }
+none_grows wider n2 r2 rooms (rest_of_operand at first) = record { at = λ i. tt }
 
 rooms_none : (wider : Bool) (r : ℕ) → Rooms wider (suc r) zero → ⊥
 rooms_none true r h = omega (arith, h)
@@ -136,9 +108,9 @@ grows_expr least = grows_node (an_expr least)
 pub grows_known_path : IsGrowing a_known_path
 unfolding a_known_path
 grows_known_path true n n2 zero zero more rooms = absurd (omega (arith, rooms))
-grows_known_path true n n2 zero (suc r2) more rooms = let o : OpensBy n2 r2 (expr n2 r2) (local_expr n2 r2) starts_path known_path = record { opens = path_opens n2 r2 (expr n2 r2) (local_expr n2 r2) } in
-    grows_none (ExprTree × NameKind) starts_path true _ (λ e. absurd (cc)) (λ _ i h. past_of n2 r2 (expr n2 r2) (local_expr n2 r2) o i h) (λ _ i h. refused_of n2 r2 (expr n2 r2) (local_expr n2 r2) o i h)
-grows_known_path false n n2 zero zero more rooms = grows_none (ExprTree × NameKind) starts_path false _ (λ _ i. refl) (λ e. absurd (cc)) (λ e. absurd (cc))
+grows_known_path true n n2 zero (suc r2) more rooms = let o : OpensBy n2 r2 (expr n2 r2) (local_expr n2 r2) path_starts known_path = record { opens = path_opens n2 r2 (expr n2 r2) (local_expr n2 r2) } in
+    grows_none (ExprTree × NameKind) path_starts true _ (λ e. absurd (cc)) (λ _ i h. past_of n2 r2 (expr n2 r2) (local_expr n2 r2) o i h) (λ _ i h. refused_of n2 r2 (expr n2 r2) (local_expr n2 r2) o i h)
+grows_known_path false n n2 zero zero more rooms = grows_none (ExprTree × NameKind) path_starts false _ (λ _ i. refl) (λ e. absurd (cc)) (λ e. absurd (cc))
 grows_known_path false n n2 zero (suc r2) more rooms = absurd (omega (arith, rooms))
 grows_known_path wider n n2 (suc r) zero more rooms = absurd (rooms_none wider r rooms)
 grows_known_path wider n n2 (suc r) (suc r2) more rooms =

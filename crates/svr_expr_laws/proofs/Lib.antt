@@ -1,11 +1,13 @@
-pub mod Links
+pub mod Connectives
 pub mod Trees
 pub mod Names
+pub mod Folds
 pub mod SoundParts
 pub mod Sound
 pub mod Growth
 pub mod CompleteParts
 pub mod Complete
 pub mod Nodes
+pub mod LiveRest
 pub mod LiveParts
 pub mod Live

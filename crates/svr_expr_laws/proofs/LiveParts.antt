@@ -9,25 +9,27 @@ use Rattle.svr_token.specs.declared.NameKind.TheVariants as name_kind
 use Rattle.svr_tree.specs.declared.expr.Scope.{Scope}
 use Rattle.svr_tree.specs.declared.expr.Scope.TheVariants as scope
 use Rattle.svr_tree.specs.Tokens.{Tok}
+use Rattle.svr_tree.specs.Operators.{unary_level}
 use Rattle.svr_tree.specs.ExprTree.{ExprTree, one, value}
+use Rattle.svr_reader.specs.Outcomes.{Turn, go, done, Parser, lexeme_at}
 use Rattle.svr_reader.specs.declared.fixed.Fixed.TheVariants as f
-use Rattle.svr_reader.specs.Program.{Turn, go, done, Program, pure, bind, peek, call, loop, Parser, lexeme_at, run}
-use Rattle.svr_reader.specs.Steps.{same_mark, is_fixed, choose}
-use Rattle.svr_reader.specs.Lists.{Tall, led, listing_on}
+use Rattle.svr_reader.specs.Program.{Program, pure, bind, peek, call, loop, run, known_name}
+use Rattle.svr_reader.specs.Steps.{same_mark, is_fixed}
+use Rattle.svr_reader.specs.Lists.{WithHeight, led, listing_on, choose}
 use Rattle.svr_reader.proofs.Steps.{bind_is, choose_false}
 use Rattle.svr_reader.proofs.Local.{IsLocal}
 use Rattle.svr_reader.proofs.Live.{AnyToken, Finishes}
 use Rattle.svr_reader.proofs.LiveLoops.{Then}
 use Rattle.svr_reader.proofs.Goals.{Goal, Form, then_goal, then_form, goal_of, pure_goal, take_form, enter_form, peek_form, here_form, refuse_form, weaken_form, any_goal, wide_goal}
-use Rattle.svr_reader.proofs.Led.{AnyAnswer, goal_expect}
+use Rattle.svr_reader.proofs.Led.{AnyAnswer, a_name, name_tok, known_name_form, known_name_goal, goal_expect}
 use Rattle.svr_reader.proofs.LiveTurns.{led_loop_goal}
 use Rattle.svr_reader.proofs.LivePeeks.{Peeks, reads, stops, peek_loop_goal}
 use Rattle.svr_reader.proofs.LiveLists.{listing_on_goal, listing_form, listing_goal}
 use Rattle.svr_reader.proofs.Layers.{IsViable, Low, Part}
-use Rattle.svr_expr.specs.Links.{binds}
-use Rattle.svr_expr.specs.ExprRules.{Reader, known_name_by, known_name, name, name_step, names_on, path_from, plain_path, local_path, this_path, known_path_by, known_path, path_in, indexed, member_step, member_in, exprs, bound_by, bound, spanned, range_by, range, ranges}
+use Rattle.svr_expr.specs.Connectives.{binds}
+use Rattle.svr_expr.specs.ExprRules.{Rule, name_step, names_on, path_from, plain_path, local_path, this_path, known_path_by, known_path, path_in, index_on, member_step, member_in, exprs, bound_by, bound, span_on, range_by, range, ranges}
 use Rattle.svr_expr_laws.proofs.CompleteParts.{IsCompleteExpr}
-use Rattle.svr_expr_laws.proofs.Nodes.{NotDot, NotSelect, name_tok, name_expr, name_takes}
+use Rattle.svr_expr_laws.proofs.Nodes.{NotDot, NotSelect, name_expr, name_takes}
 
 -- tokens with which no expression goes on
 abbrev pub Closes : Option Lexeme → Type 0
@@ -36,9 +38,6 @@ Closes q = binds q ≡ 0
 -- the same of a list of expressions
 abbrev pub ClosesList : Option Lexeme → Type 0
 ClosesList q = Closes q × (is_fixed (f.Mark m.Comma) q ≡ false)
-
-abbrev pub a_name : Option Lexeme
-a_name = Some (lexeme.Name name_kind.Plain)
 
 pub closes_select : (q : Option Lexeme) → Closes q → NotSelect q
 unfolding same_mark
@@ -62,26 +61,6 @@ module _ {K : Type 0} {Ans : K → Type 0} (most r : ℕ) (sub : (k : K) → Par
   abbrev NF : {X : Type 0} → (C : Option Lexeme → Type 0) → (X → Type 0) → Program K Ans X → Type 0
   NF C Q q = Form most r sub ls C Q q
 
-  known_name_by_form : (q : Option Lexeme) → NF AnyToken AnyAnswer (known_name_by q)
-  known_name_by_form (Some (lexeme.Name k)) = take_form most r sub ls (λ n. pure_goal most r sub ls tt (λ _ h. h))
-  known_name_by_form _ = refuse_form most r sub ls
-
-  pub known_name_form : NF AnyToken AnyAnswer known_name
-  unfolding known_name
-  known_name_form = peek_form most r sub ls known_name_by_form
-
-  pub known_name_goal : {D : Option Lexeme → Type 0} → D a_name → NG D AnyToken AnyAnswer known_name
-  unfolding known_name
-  known_name_goal d = goal_of most r sub ls (peek_form most r sub ls known_name_by_form) (record { more = name_tok ∷ []; x = (0, name_kind.Plain); good = tt; opens = λ z cl. d; ends = λ z cl. refl })
-
-  pub name_form : NF AnyToken AnyAnswer name
-  unfolding name
-  name_form = then_form most r sub ls known_name_form (λ n _. pure_goal most r sub ls tt (λ _ h. h))
-
-  pub name_goal : {D : Option Lexeme → Type 0} → D a_name → NG D AnyToken AnyAnswer name
-  unfolding name
-  name_goal d = then_goal most r sub ls (known_name_goal d) (λ n _. pure_goal most r sub ls tt (λ _ h. h))
-
   abbrev Names : Type 0
   Names = List ℕ × NameKind
 
@@ -92,7 +71,7 @@ module _ {K : Type 0} {Ans : K → Type 0} (most r : ℕ) (sub : (k : K) → Par
   NameEnds = Then most NotDot NotDot AnyAnswer (λ s. NR (led (f.Mark m.Dot) (dotted_name s) (pure (done s)))) AnyAnswer
 
   dotted_goal : (s : Names) → NG AnyToken NotDot NameEnds (dotted_name s)
-  dotted_goal s = then_goal most r sub ls (known_name_goal tt) (λ n _. pure_goal most r sub ls {Q = NameEnds} {x = go (s.0 ++ n.0 ∷ [], n.1)} (tt, λ _ h. h) (λ _ _. tt))
+  dotted_goal s = then_goal most r sub ls (known_name_goal most r sub ls tt) (λ n _. pure_goal most r sub ls {Q = NameEnds} {x = go (s.0 ++ n.0 ∷ [], n.1)} (tt, λ _ h. h) (λ _ _. tt))
 
   pub names_on_goal : (first : ℕ × NameKind) → NG NotDot NotDot AnyAnswer (names_on first)
   unfolding names_on name_step
@@ -100,11 +79,11 @@ module _ {K : Type 0} {Ans : K → Type 0} (most r : ℕ) (sub : (k : K) → Par
 
   pub path_from_form : (at : ℕ) (s : Scope) → NF NotDot AnyAnswer (path_from at s)
   unfolding path_from
-  path_from_form at s = then_form most r sub ls known_name_form (λ n _. then_goal most r sub ls (any_goal most r sub ls (names_on_goal n)) (λ ns _. pure_goal most r sub ls tt (λ _ h. h)))
+  path_from_form at s = then_form most r sub ls (known_name_form most r sub ls) (λ n _. then_goal most r sub ls (any_goal most r sub ls (names_on_goal n)) (λ ns _. pure_goal most r sub ls tt (λ _ h. h)))
 
   pub path_from_goal : {D : Option Lexeme → Type 0} → D a_name → (at : ℕ) (s : Scope) → NG D NotDot AnyAnswer (path_from at s)
   unfolding path_from
-  path_from_goal d at s = then_goal most r sub ls (known_name_goal d) (λ n _. then_goal most r sub ls (any_goal most r sub ls (names_on_goal n)) (λ ns _. pure_goal most r sub ls tt (λ _ h. h)))
+  path_from_goal d at s = then_goal most r sub ls (known_name_goal most r sub ls d) (λ n _. then_goal most r sub ls (any_goal most r sub ls (names_on_goal n)) (λ ns _. pure_goal most r sub ls tt (λ _ h. h)))
 
   known_path_by_form : (q : Option Lexeme) → NF NotDot AnyAnswer (known_path_by q)
   unfolding local_path this_path plain_path
@@ -118,24 +97,24 @@ module _ {K : Type 0} {Ans : K → Type 0} (most r : ℕ) (sub : (k : K) → Par
 
 -- ---- expressions
 
-module _ (most r : ℕ) (sub : ℕ → Parser (Tall ExprTree)) (ls : (least : ℕ) → IsLocal (sub least)) (some : 1 ≤ most)
-    (complete : IsCompleteExpr most r sub) (hyp : 1 ≤ r → (least : ℕ) → 1 ≤ least → least ≤ 13 → IsViable most Closes (Part r) (sub least)) where
-  abbrev R : {X : Type 0} → Reader X → Parser X
+module _ (most r : ℕ) (sub : ℕ → Parser (WithHeight ExprTree)) (ls : (least : ℕ) → IsLocal (sub least)) (some : 1 ≤ most)
+    (complete : IsCompleteExpr most r sub) (hyp : 1 ≤ r → (least : ℕ) → 1 ≤ least → least ≤ unary_level → IsViable most Closes (Part r) (sub least)) where
+  abbrev R : {X : Type 0} → Rule X → Parser X
   R p = run most r sub p
 
-  abbrev G : {X : Type 0} → (D C : Option Lexeme → Type 0) → (X → Type 0) → Reader X → Type 0
+  abbrev G : {X : Type 0} → (D C : Option Lexeme → Type 0) → (X → Type 0) → Rule X → Type 0
   G D C Q q = Goal most r sub ls D C Q q
 
-  abbrev F : {X : Type 0} → (C : Option Lexeme → Type 0) → (X → Type 0) → Reader X → Type 0
+  abbrev F : {X : Type 0} → (C : Option Lexeme → Type 0) → (X → Type 0) → Rule X → Type 0
   F C Q q = Form most r sub ls C Q q
 
-  sub_name : 1 ≤ r → (least : ℕ) → 1 ≤ least → least ≤ 13 → (z : List Tok) → Closes (lexeme_at z) → sub least (name_tok ∷ z) ≡ Ok ((name_expr, 1), z)
+  sub_name : 1 ≤ r → (least : ℕ) → 1 ≤ least → least ≤ unary_level → (z : List Tok) → Closes (lexeme_at z) → sub least (name_tok ∷ z) ≡ Ok ((name_expr, 1), z)
   sub_name fits least pos low z cl = (complete least pos).at name_expr (name_tok ∷ z) z (omega (arith, some)) (refl, low) fits (name_takes z) (omega (arith, cl, pos))
 
-  form_sub : 1 ≤ r → (least : ℕ) → 1 ≤ least → least ≤ 13 → F Closes (Part r) (call least)
+  form_sub : 1 ≤ r → (least : ℕ) → 1 ≤ least → least ≤ unary_level → F Closes (Part r) (call least)
   form_sub fits least pos low = let v = hyp fits least pos low in record { later = v.later; settles = v.settles; consumes = v.consumes }
 
-  pub goal_sub : {D : Option Lexeme → Type 0} → 1 ≤ r → (least : ℕ) → 1 ≤ least → least ≤ 13 → D a_name → G D Closes (Part r) (call least)
+  pub goal_sub : {D : Option Lexeme → Type 0} → 1 ≤ r → (least : ℕ) → 1 ≤ least → least ≤ unary_level → D a_name → G D Closes (Part r) (call least)
   goal_sub fits least pos low d = goal_of most r sub ls (form_sub fits least pos low) (record { more = name_tok ∷ []; x = (name_expr, 1); good = (omega arith, fits); opens = λ z cl. d; ends = λ z cl. sub_name fits least pos low z cl })
 
   any_sub : {D : Option Lexeme → Type 0} → 1 ≤ r → D a_name → G D Closes (Part r) (call 1)
@@ -157,7 +136,7 @@ module _ (most r : ℕ) (sub : ℕ → Parser (Tall ExprTree)) (ls : (least : �
   unfolding exprs
   exprs_goal fits d = listing_goal most r sub ls some r Closes ClosesList (λ q h. h.0) (λ q h. h.1) (call 1) (one_form fits) (one_fin fits d)
 
-  pub exprs_on_goal : 1 ≤ r → (s : Tall (List ExprTree)) → Low r s → G AnyToken ClosesList (Low r) (listing_on (call 1) s)
+  pub exprs_on_goal : 1 ≤ r → (s : WithHeight (List ExprTree)) → Low r s → G AnyToken ClosesList (Low r) (listing_on (call 1) s)
   exprs_on_goal fits s low = listing_on_goal most r sub ls some r Closes ClosesList (λ q h. h.0) (λ q h. h.1) (call 1) (one_form fits) (one_fin {E = AnyToken} fits tt) s low
 
   bound_by_form : 1 ≤ r → (q : Option Lexeme) → F Closes (Low r) (bound_by q)
@@ -174,8 +153,8 @@ module _ (most r : ℕ) (sub : ℕ → Parser (Tall ExprTree)) (ls : (least : �
     ends = λ z cl. bind_is (sub 1 (name_tok ∷ z)) _ (name_expr, 1) z _ (sub_name fits 1 (omega arith) (omega arith) z cl) refl;
   })
 
-  goal_spanned : 1 ≤ r → G AnyToken Closes (Low r) spanned
-  unfolding spanned
+  goal_spanned : 1 ≤ r → G AnyToken Closes (Low r) span_on
+  unfolding span_on
   goal_spanned fits = then_goal most r sub ls (goal_bound fits) (λ lo g. then_goal most r sub ls (goal_expect most r sub ls (f.Mark m.Colon) refl) (λ _ _.
       then_goal most r sub ls (goal_bound fits) (λ hi g2. then_goal most r sub ls (goal_expect most r sub ls (f.Mark m.CloseBracket) refl) (λ _ _. pure_goal most r sub ls (omega (arith, g, g2)) (λ _ _. tt)))))
 
@@ -207,22 +186,22 @@ module _ (most r : ℕ) (sub : ℕ → Parser (Tall ExprTree)) (ls : (least : �
   unfolding path_in
   path_in_form = then_form most r sub ls (known_path_form most r sub ls some) (λ p _. pure_goal most r sub ls (omega arith, omega arith) (λ _ h. h))
 
-  indexed_form : (at : ℕ) (base : Tall ExprTree) → Part (suc r) base → F AnyToken (Part (suc r)) (indexed at base)
-  unfolding indexed
-  indexed_form at base a = enter_form most r sub ls a.1 (λ fits _. then_goal most r sub ls (any_sub (omega (arith, a.0, fits)) tt) (λ x g.
+  index_on_form : (at : ℕ) (base : WithHeight ExprTree) → Part (suc r) base → F AnyToken (Part (suc r)) (index_on at base)
+  unfolding index_on
+  index_on_form at base a = enter_form most r sub ls a.1 (λ fits _. then_goal most r sub ls (any_sub (omega (arith, a.0, fits)) tt) (λ x g.
       then_goal most r sub ls (goal_expect most r sub ls (f.Mark m.CloseBracket) refl) (λ _ _. pure_goal most r sub ls (omega arith, omega (arith, fits, g.1)) (λ _ _. tt))))
 
-  abbrev MemberEnds : ℕ → Turn (Tall ExprTree) (Tall ExprTree) → Type 0
-  MemberEnds at = Then most NotSelect NotSelect (Part (suc r)) (λ s. R (bind peek (λ l. choose (is_fixed (f.Mark m.OpenBracket) l) (bind (indexed at s) (λ longer. pure (go longer))) (pure (done s))))) (Part (suc r))
+  abbrev MemberEnds : ℕ → Turn (WithHeight ExprTree) (WithHeight ExprTree) → Type 0
+  MemberEnds at = Then most NotSelect NotSelect (Part (suc r)) (λ s. R (bind peek (λ l. choose (is_fixed (f.Mark m.OpenBracket) l) (bind (index_on at s) (λ longer. pure (go longer))) (pure (done s))))) (Part (suc r))
 
-  abbrev member_turn : ℕ → Tall ExprTree → Option Lexeme → Reader (Turn (Tall ExprTree) (Tall ExprTree))
-  member_turn at s l = choose (is_fixed (f.Mark m.OpenBracket) l) (bind (indexed at s) (λ longer. pure (go longer))) (pure (done s))
+  abbrev member_turn : ℕ → WithHeight ExprTree → Option Lexeme → Rule (Turn (WithHeight ExprTree) (WithHeight ExprTree))
+  member_turn at s l = choose (is_fixed (f.Mark m.OpenBracket) l) (bind (index_on at s) (λ longer. pure (go longer))) (pure (done s))
 
-  member_branch : (at : ℕ) (s : Tall ExprTree) → Part (suc r) s → (t : Bool) → Peeks most r sub ls NotSelect (MemberEnds at) (done s) (choose t (bind (indexed at s) (λ longer. pure (go longer))) (pure (done s)))
-  member_branch at s inv true = reads (then_form most r sub ls (indexed_form at s inv) (λ longer g. pure_goal most r sub ls {Q = MemberEnds at} {x = go longer} (g, λ _ h. h) (λ _ _. tt)))
+  member_branch : (at : ℕ) (s : WithHeight ExprTree) → Part (suc r) s → (t : Bool) → Peeks most r sub ls NotSelect (MemberEnds at) (done s) (choose t (bind (index_on at s) (λ longer. pure (go longer))) (pure (done s)))
+  member_branch at s inv true = reads (then_form most r sub ls (index_on_form at s inv) (λ longer g. pure_goal most r sub ls {Q = MemberEnds at} {x = go longer} (g, λ _ h. h) (λ _ _. tt)))
   member_branch at s inv false = stops (λ i. refl)
 
-  member_goal : (at : ℕ) (base : Tall ExprTree) → Part (suc r) base → G NotSelect NotSelect (Part (suc r)) (loop (member_step at) base)
+  member_goal : (at : ℕ) (base : WithHeight ExprTree) → Part (suc r) base → G NotSelect NotSelect (Part (suc r)) (loop (member_step at) base)
   unfolding member_step
   member_goal at base a = peek_loop_goal most r sub ls NotSelect (Part (suc r)) (Part (suc r)) (member_turn at) (λ x. x) (λ s inv. inv)
       (λ s inv q. member_branch at s inv (is_fixed (f.Mark m.OpenBracket) q)) (λ s q i cl. choose_false most r sub _ _ _ i cl.1) some base a

@@ -8,15 +8,17 @@ use Rattle.svr_token.specs.declared.Mark.TheVariants as m
 use Rattle.svr_token.specs.declared.NameKind.{NameKind}
 use Rattle.svr_tree.specs.declared.expr.Scope.{Scope}
 use Rattle.svr_tree.specs.declared.expr.Scope.TheVariants as scope
-use Rattle.svr_tree.specs.Tokens.{Tok, Entry, On, Name, FitEach, mark}
+use Rattle.svr_tree.specs.Tokens.{Tok, Entry, On, Any, Name, FitEach, mark}
 use Rattle.svr_tree.specs.ExprTree.{ExprTree, path}
 use Rattle.svr_tree.specs.ExprGrammar.{names_spelling, scope_spelling, expr_spelling, IsPathAt}
+use Rattle.svr_reader.specs.Lists.{name}
+use Rattle.svr_reader.specs.Outcomes.{Turn, go, done, Parser, lexeme_at, number_at, turns}
 use Rattle.svr_reader.specs.declared.fixed.Fixed.{Fixed}
 use Rattle.svr_reader.specs.declared.fixed.Fixed.TheVariants as f
-use Rattle.svr_reader.specs.Program.{Turn, go, done, Program, pure, bind, Parser, lexeme_at, number_at, turns, run}
-use Rattle.svr_reader.specs.Steps.{sees, expect}
-use Rattle.svr_reader.proofs.Steps.{bind_ok, bind_is, yields, turn_ok, takes_append, takes_parts, takes_length, expect_ok, expects, led_ok, led_takes, led_no}
-use Rattle.svr_expr.specs.ExprRules.{known_name_by, known_name, name, name_step, names_on, path_from, plain_path, local_path, this_path, known_path_by, known_path}
+use Rattle.svr_reader.specs.Program.{Program, pure, bind, run, expect, known_name}
+use Rattle.svr_reader.specs.Steps.{sees}
+use Rattle.svr_reader.proofs.Steps.{bind_ok, bind_is, yields, turn_ok, takes_append, takes_parts, takes_length, expect_ok, expects, known_name_sound, known_name_complete, led_ok, led_takes, led_no}
+use Rattle.svr_expr.specs.ExprRules.{all_but_last, name_step, names_on, path_from, plain_path, local_path, this_path, known_path_by, known_path}
 
 -- ---- names of which the kind of the last one is told
 
@@ -89,6 +91,45 @@ spelled_known at s (n ∷ ns) i j g h = let p = takes_parts i (scope_spelling at
     let d = some_kind n ns p.0 j (subst (λ v. FitEach p.0 (names_spelling (n ∷ ns)) v) q.2 q.1) in
     (d.0, takes_append i (scope_spelling at s) (names_known (n ∷ ns) d.0) p.0 j p.1 d.1)
 
+-- ---- the last name of two or more, behind its dot
+
+abbrev pub last_name : NameKind → List Entry → List Entry
+last_name k es = mark m.Dot ∷ (Any (lexeme.Name k) ∷ es)
+
+pub split_last : (n o : ℕ) (ns : List ℕ) (k : NameKind) (i rest : List Tok) → FitEach i (names_known (n ∷ (o ∷ ns)) k) rest → FitEach i (names_spelling (all_but_last (n ∷ (o ∷ ns))) ++ last_name k []) rest
+split_last n o [] k [] rest h = absurd h
+split_last n o [] k (t ∷ []) rest h = absurd h.1
+split_last n o [] k (t ∷ (u ∷ [])) rest h = absurd h.1.1
+split_last n o [] k (t ∷ (u ∷ (v ∷ i))) rest h = (h.0, (h.1.0, (h.1.1.0.1, h.1.1.1)))
+split_last n o (q ∷ ns) k [] rest h = absurd h
+split_last n o (q ∷ ns) k (t ∷ []) rest h = absurd h.1
+split_last n o (q ∷ ns) k (t ∷ (u ∷ i)) rest h = (h.0, (h.1.0, split_last o q ns k i rest h.1.1))
+
+-- names, the number of the last of which is told by its token
+pub record LastName (i : List Tok) (s : List Entry) (ns : List ℕ) (k : NameKind) (es : List Entry) (rest : List Tok) : Type 0 where
+  pub number : ℕ
+  pub mid : List Tok
+  pub names : FitEach i (s ++ names_known (ns ++ number ∷ []) k) mid
+  pub others : FitEach mid es rest
+
+join_last : (n : ℕ) (ns : List ℕ) (k : NameKind) (es : List Entry) (i rest : List Tok) → FitEach i (names_spelling (n ∷ ns) ++ last_name k es) rest → LastName i [] (n ∷ ns) k es rest
+join_last n [] k es [] rest h = absurd h
+join_last n [] k es (t ∷ []) rest h = absurd h.1
+join_last n [] k es (t ∷ (u ∷ [])) rest h = absurd h.1.1
+join_last n [] k es (t ∷ (u ∷ (v ∷ i))) rest h = record { number = v.at; mid = i; names = (h.0, (h.1.0, ((refl, h.1.1.0), refl))); others = h.1.1.1 }
+join_last n (o ∷ ns) k es [] rest h = absurd h
+join_last n (o ∷ ns) k es (t ∷ []) rest h = absurd h.1
+join_last n (o ∷ ns) k es (t ∷ (u ∷ i)) rest h = let d = join_last o ns k es i rest h.1.1 in record { number = d.number; mid = d.mid; names = (h.0, (h.1.0, d.names)); others = d.others }
+
+-- the same behind the scope of a path
+pub path_last : (at : ℕ) (s : Scope) (n : ℕ) (ns : List ℕ) (k : NameKind) (es : List Entry) (i rest : List Tok) → FitEach i (expr_spelling (path at s (n ∷ ns) false) ++ last_name k es) rest → LastName i (scope_spelling at s) (n ∷ ns) k es rest
+path_last at s n ns k es i rest h =
+    let a = takes_parts i (expr_spelling (path at s (n ∷ ns) false)) (last_name k es) rest h in
+    let b = takes_parts i (scope_spelling at s) (names_spelling (n ∷ ns) ++ []) a.0 a.1 in
+    let c = takes_parts b.0 (names_spelling (n ∷ ns)) [] a.0 b.2 in
+    let d = join_last n ns k es b.0 rest (takes_append b.0 (names_spelling (n ∷ ns)) (last_name k es) c.0 rest c.1 (subst (λ z. FitEach z (last_name k es) rest) (sym c.2) a.2)) in
+    record { number = d.number; mid = d.mid; names = takes_append i (scope_spelling at s) (names_known ((n ∷ ns) ++ d.number ∷ []) k) b.0 d.mid b.1 d.names; others = d.others }
+
 module _ {K : Type 0} {Ans : K → Type 0} (most r : ℕ) (sub : (k : K) → Parser (Ans k)) where
   abbrev R : {A : Type 0} → Program K Ans A → Parser A
   R p = run most r sub p
@@ -98,32 +139,6 @@ module _ {K : Type 0} {Ans : K → Type 0} (most r : ℕ) (sub : (k : K) → Par
 
   abbrev dot : Fixed
   dot = f.Mark m.Dot
-
-  -- ---- one name
-
-  known_name_by_sound : (q : Option Lexeme) (i : List Tok) (y : (ℕ × NameKind) × List Tok) → lexeme_at i ≡ q → R (known_name_by q) i ≡ Ok y → FitEach i (On y.0.0 (lexeme.Name y.0.1) ∷ []) y.1
-  known_name_by_sound (Some (lexeme.Name k)) [] y e h = absurd (cc)
-  known_name_by_sound (Some (lexeme.Name k)) (t ∷ i) y e h = let is : t.lexeme ≡ lexeme.Name k = cc in yields (λ x j. FitEach (t ∷ i) (On x.0 (lexeme.Name x.1) ∷ []) j) (t.at, k) i y h ((refl, is), refl)
-  known_name_by_sound _ i y e h = absurd (cc)
-
-  pub known_name_sound : (i : List Tok) (x : ℕ × NameKind) (j : List Tok) → R known_name i ≡ Ok (x, j) → FitEach i (On x.0 (lexeme.Name x.1) ∷ []) j
-  unfolding known_name
-  known_name_sound i x j h = known_name_by_sound (lexeme_at i) i (x, j) refl h
-
-  pub known_name_complete : (n : ℕ) (k : NameKind) (i rest : List Tok) → FitEach i (On n (lexeme.Name k) ∷ []) rest → R known_name i ≡ Ok ((n, k), rest)
-  unfolding known_name
-  known_name_complete n k [] rest h = absurd h
-  known_name_complete n k (t ∷ i) rest h = ap (λ q. R (known_name_by (Some q)) (t ∷ i)) h.0.1 ∙ (let at = h.0.0 in let end = h.1 in cc)
-
-  pub name_sound : (i : List Tok) (x : ℕ) (j : List Tok) → R name i ≡ Ok (x, j) → FitEach i (Name x ∷ []) j
-  unfolding name
-  name_sound i x j h = bind_ok (R known_name i) _ (x, j) h (λ n j2 e g. forget_kind (x ∷ []) n.1 i j
-      (let both : ◌≡◌ {A = ℕ × List Tok} (n.0, j2) (x, j) = cc in
-      subst (λ z. FitEach i (On z.0 (lexeme.Name n.1) ∷ []) z.1) both (known_name_sound i n j2 e)))
-
-  pub name_complete : (n : ℕ) (i rest : List Tok) → FitEach i (Name n ∷ []) rest → R name i ≡ Ok (n, rest)
-  unfolding name
-  name_complete n i rest h = let d = some_kind n [] i rest h in bind_is (R known_name i) _ (n, d.0) rest _ (known_name_complete n d.0 i rest d.1) refl
 
   -- ---- names behind a first one
 
@@ -142,7 +157,7 @@ module _ {K : Type 0} {Ans : K → Type 0} (most r : ℕ) (sub : (k : K) → Par
   name_step_ok s i v j h g d = led_ok most r sub dot (dotted_name s) (pure (done s)) i (v, j) h
       (λ mid t e. bind_ok (R known_name mid) _ (v, j) e (λ x j2 e2 k2.
       let both : ◌≡◌ {A = Turn Names Names × List Tok} (go (s.0 ++ x.0 ∷ [], x.1), j2) (v, j) = cc in
-      g x (sym (ap (λ z. z.0) both)) (takes_append i (mark m.Dot ∷ []) (On x.0 (lexeme.Name x.1) ∷ []) mid j t (subst (λ z. FitEach mid (On x.0 (lexeme.Name x.1) ∷ []) z) (ap (λ z. z.1) both) (known_name_sound mid x j2 e2)))))
+      g x (sym (ap (λ z. z.0) both)) (takes_append i (mark m.Dot ∷ []) (On x.0 (lexeme.Name x.1) ∷ []) mid j t (subst (λ z. FitEach mid (On x.0 (lexeme.Name x.1) ∷ []) z) (ap (λ z. z.1) both) (known_name_sound most r sub mid x j2 e2)))))
       (λ _ e. let both : ◌≡◌ {A = Turn Names Names × List Tok} (done s, i) (v, j) = cc in d (sym (ap (λ z. z.0) both)) (ap (λ z. z.1) both))
 
   one_more_name : (i j rest : List Tok) (n : ℕ) (first k : NameKind) (ns : List ℕ) → FitEach i (mark m.Dot ∷ On n (lexeme.Name first) ∷ []) j → FitEach j (rest_known ns k) rest → (ns ≡ [] → k ≡ first) → FitEach i (rest_known (n ∷ ns) k) rest
@@ -184,7 +199,7 @@ module _ {K : Type 0} {Ans : K → Type 0} (most r : ℕ) (sub : (k : K) → Par
       let shorter : length d.j < n + length rest = omega (arith, full, ap length d.is) in
       bind_is (R (name_step s) (t ∷ i)) _ (go (s.0 ++ o ∷ [], d.first)) d.j _
       (led_takes most r sub dot (dotted_name s) (pure (done s)) (t ∷ i) i (h.0, refl)
-      ∙ bind_is (R known_name i) _ (o, d.first) d.j _ (known_name_complete o d.first i d.j (subst (λ z. FitEach z (On o (lexeme.Name d.first) ∷ []) d.j) (sym d.is) ((d.at, d.lexeme), refl))) refl)
+      ∙ bind_is (R known_name i) _ (o, d.first) d.j _ (known_name_complete most r sub o d.first i d.j (subst (λ z. FitEach z (On o (lexeme.Name d.first) ∷ []) d.j) (sym d.is) ((d.at, d.lexeme), refl))) refl)
       (names_turns_complete n (s.0 ++ o ∷ [], d.first) ns k d.j rest shorter d.others d.last c ∙ ap (λ z. Ok ((z, k), rest)) (append_assoc s.0 (o ∷ []) ns))
 
   pub names_on_complete : (n : ℕ) (first k : NameKind) (more : List ℕ) (i rest : List Tok) → length i < most + length rest → FitEach i (rest_known more k) rest → (more ≡ [] → k ≡ first) → sees dot rest ≡ false
@@ -210,7 +225,7 @@ module _ {K : Type 0} {Ans : K → Type 0} (most r : ℕ) (sub : (k : K) → Par
   unfolding path_from
   path_from_sound at s i y h = bind_ok (R known_name i) _ y h (λ n mid e g. bind_ok (R (names_on n) mid) _ y g (λ ns j e2 g2.
       let d = names_on_sound n mid ns j e2 in
-      let a = join_first i mid j n.0 n.1 ns.1 d.more (known_name_sound i n mid e) d.takes d.last in
+      let a = join_first i mid j n.0 n.1 ns.1 d.more (known_name_sound most r sub i n mid e) d.takes d.last in
       yields (FromRead at s i) _ _ y g2 (record { first = n.0; more = d.more; is = ap (λ z. path at s z false) d.all; takes = a.0; begins = a.1 })))
 
   known_path_by_sound : (q : Option Lexeme) (i : List Tok) (y : (ExprTree × NameKind) × List Tok) → lexeme_at i ≡ q → R (known_path_by q) i ≡ Ok y → KnownPath i y.0 y.1
@@ -239,7 +254,7 @@ module _ {K : Type 0} {Ans : K → Type 0} (most r : ℕ) (sub : (k : K) → Par
   path_from_complete at s n ns k i rest few h c =
       let d = first_name i rest n ns k h in
       let shorter : length d.j < most + length rest = omega (arith, few, ap length d.is) in
-      bind_is (R known_name i) _ (n, d.first) d.j _ (known_name_complete n d.first i d.j (subst (λ z. FitEach z (On n (lexeme.Name d.first) ∷ []) d.j) (sym d.is) ((d.at, d.lexeme), refl)))
+      bind_is (R known_name i) _ (n, d.first) d.j _ (known_name_complete most r sub n d.first i d.j (subst (λ z. FitEach z (On n (lexeme.Name d.first) ∷ []) d.j) (sym d.is) ((d.at, d.lexeme), refl)))
       (bind_is (R (names_on (n, d.first)) d.j) _ (n ∷ ns, k) rest _ (names_on_complete n d.first k ns d.j rest shorter d.others d.last c) refl)
 
   plain_by : (q : Option Lexeme) (i : List Tok) (first : NameKind) → q ≡ Some (lexeme.Name first) → R (known_path_by q) i ≡ R plain_path i

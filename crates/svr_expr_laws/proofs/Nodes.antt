@@ -1,5 +1,5 @@
 -- Paths, members, lists and ranges are read; and an expression whose first path was read already goes on as a whole one.
-use Rattle.std.proofs.Common.{◌≡◌, ℕ, zero, suc, ◌+◌, ◌<◌, ◌≤◌, max, true, false, List, [], ◌∷◌, ◌++◌, length, Option, Some, Ok, Err, refl, sym, ◌∙◌, ap, subst, arith}
+use Rattle.std.proofs.Common.{◌≡◌, ℕ, zero, suc, ◌+◌, ◌<◌, ◌≤◌, max, true, false, List, [], ◌∷◌, ◌++◌, length, Option, Some, Ok, Err, refl, sym, ◌∙◌, ap, subst, arith, None}
 use Rattle.svr_token.specs.declared.Lexeme.{Lexeme}
 use Rattle.svr_token.specs.declared.Lexeme.TheVariants as lexeme
 use Rattle.svr_token.specs.declared.Mark.TheVariants as m
@@ -9,25 +9,26 @@ use Rattle.svr_operator.specs.declared.BinOp.{BinOp}
 use Rattle.svr_tree.specs.declared.expr.Scope.{Scope}
 use Rattle.svr_tree.specs.declared.expr.Scope.TheVariants as scope
 use Rattle.svr_tree.specs.Tokens.{Tok, FitEach, mark}
-use Rattle.svr_tree.specs.Operators.{binary_mark, precedence, least_right}
+use Rattle.svr_tree.specs.Operators.{binary_mark, precedence, least_right, unary_level, selection_level}
 use Rattle.svr_tree.specs.ExprTree.{ExprTree, path, bit_select, binary, exprs_of}
 use Rattle.svr_tree.specs.ExprGrammar.{scope_spelling, expr_spelling, exprs_spelling, range_spelling, start, IsPathAt, is_member, IsExpr, AreExprs, IsRange, expr_height, exprs_height, range_height}
 use Rattle.svr_tree.specs.ItemGrammar.{IsPath, IsMember}
+use Rattle.svr_reader.specs.Outcomes.{go, done, Outcome, Parser, and_then, lexeme_at, number_at, next, entered, turned, turns}
 use Rattle.svr_reader.specs.declared.fixed.Fixed.TheVariants as f
-use Rattle.svr_reader.specs.Program.{go, done, Outcome, Parser, and_then, lexeme_at, number_at, next, entered, turned, turns, run}
-use Rattle.svr_reader.specs.Steps.{same_mark, is_fixed, expect}
-use Rattle.svr_reader.specs.Lists.{Tall}
+use Rattle.svr_reader.specs.Program.{run, expect}
+use Rattle.svr_reader.specs.Steps.{same_mark, is_fixed}
+use Rattle.svr_reader.specs.Lists.{WithHeight}
 use Rattle.svr_reader.proofs.Steps.{bind_is, takes_parts, takes_less, lexeme_of, entered_is, expects, choose_true, choose_false, fixed_self}
-use Rattle.svr_reader.proofs.Led.{tok}
+use Rattle.svr_reader.proofs.Led.{name_tok}
 use Rattle.svr_reader.proofs.Layers.{IsComplete}
-use Rattle.svr_expr.specs.declared.link.Link.TheVariants as link
-use Rattle.svr_expr.specs.Links.{binds}
-use Rattle.svr_expr.specs.ExprRules.{Reader, known_path, path_in, indexed, member_step, member_in, with_parens, parens_on, suffix_by, suffix_step, with_suffixes, selected, prefix, extend, climb_step, climb, expr_in, a_path, a_member, rest_of, links_of, node, expr, a_known_path, some_exprs, a_range, starts_path}
-use Rattle.svr_expr_laws.proofs.Links.{precedence_pos, precedence_low, right_pos, goes}
+use Rattle.svr_expr.specs.declared.connective.Connective.TheVariants as connective
+use Rattle.svr_expr.specs.Connectives.{binds}
+use Rattle.svr_expr.specs.ExprRules.{Rule, known_path, path_in, index_on, member_step, member_in, with_parens, parens_on, suffix_by, suffix_step, with_suffixes, path_expr, prefix, extend, climb_step, climb, expr_in, a_path, a_member, rest_of_path, rest_of_operand, node, expr, a_known_path, some_exprs, a_range, path_starts, path_fold, path_on_by, path_rest}
+use Rattle.svr_expr_laws.proofs.Connectives.{precedence_pos, precedence_low, right_pos, goes}
 use Rattle.svr_expr_laws.proofs.Trees.{height_pos, level_pos, exprs_spelling_is, exprs_height_is, exprs_are, parens, begins}
 use Rattle.svr_expr_laws.proofs.Names.{names_known, known_path_complete}
 use Rattle.svr_expr_laws.proofs.CompleteParts.{Before, EndsList, IsCompleteExpr, before_mark, sees_none, fuel_left, exprs_complete, range_complete, path_in_complete, by_path}
-use Rattle.svr_expr_laws.proofs.Complete.{turn, extended, operated_complete, last_turn, after_token, next_less, expr_complete}
+use Rattle.svr_expr_laws.proofs.Complete.{turn, extended, binary_on_complete, last_turn, after_token, next_less, expr_complete}
 
 -- tokens before which a path ends, and a path with indices
 abbrev pub NotDot : Option Lexeme → Type 0
@@ -38,8 +39,8 @@ NotSelect q = NotDot q × (is_fixed (f.Mark m.OpenBracket) q ≡ false)
 
 -- ---- paths with indices
 
-module _ (most r : ℕ) (sub : ℕ → Parser (Tall ExprTree)) (ok : IsCompleteExpr most r sub) where
-  abbrev R : {A : Type 0} → Reader A → Parser A
+module _ (most r : ℕ) (sub : ℕ → Parser (WithHeight ExprTree)) (ok : IsCompleteExpr most r sub) where
+  abbrev R : {A : Type 0} → Rule A → Parser A
   R p = run most r sub p
 
   -- the way to a path with indices: the path, and the turns that are left
@@ -49,8 +50,8 @@ module _ (most r : ℕ) (sub : ℕ → Parser (Tall ExprTree)) (ok : IsCompleteE
     is : R member_in i ≡ turns fuel (λ s. R (member_step (start t) s)) (t, expr_height t) rest
 
   index_complete : (base index : ExprTree) (i rest : List Tok) → length i ≤ most + length rest → IsExpr index → expr_height base ≤ r → expr_height index ≤ r → FitEach i (mark m.OpenBracket ∷ (expr_spelling index ++ mark m.CloseBracket ∷ [])) rest
-      → R (indexed (start base) (base, expr_height base)) i ≡ Ok ((bit_select (start base) base index false, max (expr_height base) (expr_height index) + 1), rest)
-  unfolding indexed
+      → R (index_on (start base) (base, expr_height base)) i ≡ Ok ((bit_select (start base) base index false, max (expr_height base) (expr_height index) + 1), rest)
+  unfolding index_on
   index_complete base index [] rest few l low low2 h = absurd h
   index_complete base index (t ∷ i) rest few l low low2 h =
       let p = takes_parts i (expr_spelling index) (mark m.CloseBracket ∷ []) rest h.1 in
@@ -59,11 +60,11 @@ module _ (most r : ℕ) (sub : ℕ → Parser (Tall ExprTree)) (ok : IsCompleteE
       (bind_is (sub 1 i) _ (index, expr_height index) p.0 _ ((ok 1 (omega arith)).at index i p.0 (omega (arith, few, z)) (l, level_pos index) low2 p.1 (before_mark m.CloseBracket refl p.0 rest [] p.2))
       (bind_is (R (expect (f.Mark m.CloseBracket)) p.0) _ tt rest _ (expects most r sub (f.Mark m.CloseBracket) p.0 rest p.2) refl))
 
-  index_turn : (at n : ℕ) (x : Tall ExprTree) (i : List Tok) (y : Tall ExprTree) (j : List Tok) → lexeme_at i ≡ Some (lexeme.Mark m.OpenBracket) → R (indexed at x) i ≡ Ok (y, j)
+  index_turn : (at n : ℕ) (x : WithHeight ExprTree) (i : List Tok) (y : WithHeight ExprTree) (j : List Tok) → lexeme_at i ≡ Some (lexeme.Mark m.OpenBracket) → R (index_on at x) i ≡ Ok (y, j)
       → turns (suc n) (λ s. R (member_step at s)) x i ≡ turns n (λ s. R (member_step at s)) y j
   unfolding member_step
   index_turn at n x i y j k h = bind_is (R (member_step at x) i) (turned (turns n (λ s. R (member_step at s)))) (go y) j _
-      (choose_true most r sub _ _ _ i (fixed_self (f.Mark m.OpenBracket) (lexeme_at i) k) ∙ bind_is (R (indexed at x) i) _ y j _ h refl) refl
+      (choose_true most r sub _ _ _ i (fixed_self (f.Mark m.OpenBracket) (lexeme_at i) k) ∙ bind_is (R (index_on at x) i) _ y j _ h refl) refl
 
   indexed_way : r < most → (t : ExprTree) (i rest : List Tok) → length i ≤ most + length rest → IsExpr t → is_member t ≡ true → expr_height t ≤ suc r → FitEach i (expr_spelling t) rest → NotDot (lexeme_at rest) → Indexed t i rest
   unfolding member_in same_mark
@@ -140,40 +141,43 @@ a_range_complete most r roomy = range_complete most r (expr most r) (expr_comple
 
 -- ---- an expression behind its first path
 
-regroup : {A B C D : Type 0} (o : Outcome A) (g : A → B) (h : B → Parser C) (k : C → Parser D) → and_then (and_then (and_then o (λ x j. Ok (g x, j))) h) k ≡ and_then o (λ x j. and_then (h (g x) j) k)
-regroup (Ok y) g h k = refl
-regroup (Err e) g h k = refl
+regroup : {A B C : Type 0} (o : Outcome A) (g : A → Parser B) (k : B → Parser C) → and_then (and_then o g) k ≡ and_then o (λ x j. and_then (g x j) k)
+regroup (Ok y) g k = refl
+regroup (Err e) g k = refl
 
--- an expression that begins with a path is the path and the rest
-pub rest_is : (most r : ℕ) → 1 ≤ r → r ≤ most → (i : List Tok) → starts_path (lexeme_at i) ≡ true → expr most r 1 i ≡ and_then (a_known_path most r i) (λ p j. node most r (rest_of (number_at i) (p.0, 1)) j)
-unfolding node a_known_path expr_in prefix selected path_in
-rest_is most zero fits roomy i h = absurd (omega (arith, fits))
-rest_is most (suc r) fits roomy i h =
-    ap (λ o. and_then o (λ x. run most r (expr most r) (climb (number_at i) 1 x))) (by_path most r (expr most r) (expr_complete most r (omega (arith, roomy))) (lexeme_at i) i h)
-    ∙ regroup (run most r (expr most r) known_path i) (λ p. (p.0, 1)) (λ x. run most r (expr most r) (with_suffixes (number_at i) x)) (λ x. run most r (expr most r) (climb (number_at i) 1 x))
-
-parens_step : (most r : ℕ) (sub : ℕ → Parser (Tall ExprTree)) (at : ℕ) (x : Tall ExprTree) (i rest : List Tok) → FitEach i parens rest → run most r sub (suffix_step at x) i ≡ Ok (done (with_parens x.0, x.1), rest)
+parens_step : (most r : ℕ) (sub : ℕ → Parser (WithHeight ExprTree)) (at : ℕ) (x : WithHeight ExprTree) (i rest : List Tok) → FitEach i parens rest → run most r sub (suffix_step at x) i ≡ Ok (done (with_parens x.0, x.1), rest)
 unfolding suffix_step parens_on
 parens_step most r sub at x [] rest h = absurd h
 parens_step most r sub at x (u ∷ i) rest h = ap (λ q. run most r sub (suffix_by at x (Some q)) (u ∷ i)) h.0 ∙
     bind_is (run most r sub (parens_on x) (u ∷ i)) _ (with_parens x.0, x.1) rest _ (bind_is (run most r sub (expect (f.Mark m.CloseParen)) i) _ tt rest _ (expects most r sub (f.Mark m.CloseParen) i rest h.1) refl) refl
 
-parens_all : (most n r : ℕ) (sub : ℕ → Parser (Tall ExprTree)) (at : ℕ) (x : Tall ExprTree) (i rest : List Tok) → 1 ≤ n → FitEach i parens rest → turns n (λ s. run most r sub (suffix_step at s)) x i ≡ Ok ((with_parens x.0, x.1), rest)
+parens_all : (most n r : ℕ) (sub : ℕ → Parser (WithHeight ExprTree)) (at : ℕ) (x : WithHeight ExprTree) (i rest : List Tok) → 1 ≤ n → FitEach i parens rest → turns n (λ s. run most r sub (suffix_step at s)) x i ≡ Ok ((with_parens x.0, x.1), rest)
 parens_all most zero r sub at x i rest some h = absurd (omega (arith, some))
 parens_all most (suc n) r sub at x i rest some h = bind_is (run most r sub (suffix_step at x) i) (turned (turns n (λ s. run most r sub (suffix_step at s)))) (done (with_parens x.0, x.1)) rest _ (parens_step most r sub at x i rest h) refl
 
--- behind `()` only links may stand
-pub links_are : (most r at : ℕ) (x : Tall ExprTree) (i rest : List Tok) → 1 ≤ r → 1 ≤ most → FitEach i parens rest → node most r (rest_of at x) i ≡ node most r (links_of at (with_parens x.0, x.1)) rest
-unfolding node with_suffixes
-links_are most zero at x i rest fits some h = absurd (omega (arith, fits))
-links_are most (suc r) at x i rest fits some h = bind_is (run most r (expr most r) (with_suffixes at x) i) _ (with_parens x.0, x.1) rest _ (parens_all most most r (expr most r) at x i rest some h) refl
+-- an expression that begins with a path is the path and the rest
+pub rest_is : (most r : ℕ) → 1 ≤ r → r ≤ most → (i : List Tok) → path_starts (lexeme_at i) ≡ true → expr most r 1 i ≡ and_then (a_known_path most r i) (λ p j. node most r (rest_of_path (number_at i) p) j)
+unfolding node a_known_path expr_in prefix path_expr
+rest_is most zero fits roomy i h = absurd (omega (arith, fits))
+rest_is most (suc r) fits roomy i h =
+    ap (λ o. and_then o (λ x. run most r (expr most r) (climb (number_at i) 1 x))) (by_path most r (expr most r) (expr_complete most r (omega (arith, roomy))) (lexeme_at i) i h)
+    ∙ regroup (run most r (expr most r) known_path i) (λ p. run most r (expr most r) (path_rest (number_at i) p)) (λ x. run most r (expr most r) (climb (number_at i) 1 x))
+
+-- behind the `()` of a path that ends with no reduction only connectives may stand
+pub connectives_are : (most r at at2 : ℕ) (s : Scope) (names : List ℕ) (k : NameKind) (i rest : List Tok) → path_fold (path at2 s names false, k) ≡ None → 1 ≤ r → 1 ≤ most → FitEach i parens rest
+    → node most r (rest_of_path at (path at2 s names false, k)) i ≡ node most r (rest_of_operand at (path at2 s names true, 1)) rest
+unfolding node path_rest with_suffixes
+connectives_are most zero at at2 s names k i rest e fits some h = absurd (omega (arith, fits))
+connectives_are most (suc r) at at2 s names k i rest e fits some h =
+    ap (λ o. and_then (run most r (expr most r) (path_on_by at (path at2 s names false) o) i) (λ whole. run most r (expr most r) (climb at 1 whole))) e
+    ∙ bind_is (run most r (expr most r) (with_suffixes at (path at2 s names false, 1)) i) _ (path at2 s names true, 1) rest _ (parens_all most most r (expr most r) at (path at2 s names false, 1) i rest some h) refl
 
 -- an operator behind its left operand
-pub link_complete : (most r : ℕ) → r ≤ most → (at : ℕ) (op : BinOp) (a b : ExprTree) (i rest : List Tok) → length i ≤ most + length rest → IsExpr (binary at op a b) → expr_height (binary at op a b) ≤ r → FitEach i (mark (binary_mark op) ∷ expr_spelling b) rest → binds (lexeme_at rest) < 1
-    → node most r (links_of (start a) (a, expr_height a)) i ≡ Ok ((binary at op a b, expr_height (binary at op a b)), rest)
+pub connective_complete : (most r : ℕ) → r ≤ most → (at : ℕ) (op : BinOp) (a b : ExprTree) (i rest : List Tok) → length i ≤ most + length rest → IsExpr (binary at op a b) → expr_height (binary at op a b) ≤ r → FitEach i (mark (binary_mark op) ∷ expr_spelling b) rest → binds (lexeme_at rest) < 1
+    → node most r (rest_of_operand (start a) (a, expr_height a)) i ≡ Ok ((binary at op a b, expr_height (binary at op a b)), rest)
 unfolding node climb
-link_complete most zero roomy at op a b i rest few l low h c = absurd (omega (arith, low))
-link_complete most (suc r) roomy at op a b i rest few l low h c = by most roomy2 refl
+connective_complete most zero roomy at op a b i rest few l low h c = absurd (omega (arith, low))
+connective_complete most (suc r) roomy at op a b i rest few l low h c = by most roomy2 refl
   where
     roomy2 : 2 ≤ most
     roomy2 = let pos = height_pos a in omega (arith, pos, low, roomy)
@@ -184,21 +188,18 @@ link_complete most (suc r) roomy at op a b i rest few l low h c = by most roomy2
     below : binds (lexeme_at rest) < least_right (precedence op)
     below = let pos = precedence_pos op in let right = right_pos (precedence op) pos in omega (arith, right, c)
 
-    step : run most r (expr most r) (extend (start a) (a, expr_height a) (link.Binary op)) i ≡ Ok ((binary at op a b, expr_height (binary at op a b)), rest)
-    step = let n = next_less i in extended most r (expr most r) full (start a) (a, expr_height a) (link.Binary op) i (next i) _ (omega (arith, low)) (lexeme_of i rest (lexeme.Mark (binary_mark op)) (expr_spelling b) h) refl
-        (operated_complete most r (expr most r) full at op a b (next i) rest (omega (arith, few, n)) l.0 l.2 l.4 (omega (arith, low)) (after_token i rest (lexeme.Mark (binary_mark op)) (expr_spelling b) h) below)
+    step : run most r (expr most r) (extend (start a) (a, expr_height a) (connective.Binary op)) i ≡ Ok ((binary at op a b, expr_height (binary at op a b)), rest)
+    step = let n = next_less i in extended most r (expr most r) full (start a) (a, expr_height a) (connective.Binary op) i (next i) _ (omega (arith, low)) (lexeme_of i rest (lexeme.Mark (binary_mark op)) (expr_spelling b) h) refl
+        (binary_on_complete most r (expr most r) full at op a b (next i) rest (omega (arith, few, n)) l.0 l.2 l.4 (omega (arith, low)) (after_token i rest (lexeme.Mark (binary_mark op)) (expr_spelling b) h) below)
 
-    by : (n : ℕ) → 2 ≤ n → n ≡ most → turns n (λ s. run most r (expr most r) (climb_step (start a) 1 s)) ((a, expr_height a), 14) i ≡ Ok ((binary at op a b, expr_height (binary at op a b)), rest)
+    by : (n : ℕ) → 2 ≤ n → n ≡ most → turns n (λ s. run most r (expr most r) (climb_step (start a) 1 s)) ((a, expr_height a), selection_level) i ≡ Ok ((binary at op a b, expr_height (binary at op a b)), rest)
     by zero two e = absurd (omega (arith, two))
     by (suc zero) two e = absurd (omega (arith, two))
     by (suc (suc n)) two e = let pos = precedence_pos op in let lows = precedence_low op in
-        turn most r (expr most r) full (suc n) (start a) 1 14 (a, expr_height a) (link.Binary op) i rest (binary at op a b, expr_height (binary at op a b)) (lexeme_of i rest (lexeme.Mark (binary_mark op)) (expr_spelling b) h) (goes 1 14 (precedence op) pos (omega (arith, lows))) step
+        turn most r (expr most r) full (suc n) (start a) 1 selection_level (a, expr_height a) (connective.Binary op) i rest (binary at op a b, expr_height (binary at op a b)) (lexeme_of i rest (lexeme.Mark (binary_mark op)) (expr_spelling b) h) (goes 1 selection_level (precedence op) pos (omega (arith, lows))) step
         ∙ last_turn most r (expr most r) full n (start a) 1 (least_right (precedence op)) (binary at op a b, expr_height (binary at op a b)) rest c
 
 -- ---- a name alone
-
-abbrev pub name_tok : Tok
-name_tok = tok (lexeme.Name name_kind.Plain)
 
 abbrev pub name_expr : ExprTree
 name_expr = path 0 scope.Plain (0 ∷ []) false
@@ -206,7 +207,7 @@ name_expr = path 0 scope.Plain (0 ∷ []) false
 pub name_takes : (z : List Tok) → FitEach (name_tok ∷ z) (expr_spelling name_expr) z
 name_takes z = ((refl, record { kind = name_kind.Plain; is = refl }), refl)
 
-pub name_read : (most r : ℕ) → 1 ≤ r → r ≤ most → (least : ℕ) → 1 ≤ least → least ≤ 13 → (z : List Tok) → binds (lexeme_at z) < least → expr most r least (name_tok ∷ z) ≡ Ok ((name_expr, 1), z)
+pub name_read : (most r : ℕ) → 1 ≤ r → r ≤ most → (least : ℕ) → 1 ≤ least → least ≤ unary_level → (z : List Tok) → binds (lexeme_at z) < least → expr most r least (name_tok ∷ z) ≡ Ok ((name_expr, 1), z)
 name_read most r fits roomy least pos low z c = (expr_complete most r roomy least pos).at name_expr (name_tok ∷ z) z (omega (arith, fits, roomy)) (refl, low) fits (name_takes z) c
 
 pub name_path : (most r : ℕ) → 1 ≤ r → r ≤ most → (z : List Tok) → NotDot (lexeme_at z) → node most r a_path (name_tok ∷ z) ≡ Ok ((name_expr, 1), z)

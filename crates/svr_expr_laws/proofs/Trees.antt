@@ -5,17 +5,19 @@ use Rattle.svr_token.specs.declared.Lexeme.{Lexeme}
 use Rattle.svr_token.specs.declared.Lexeme.TheVariants as lexeme
 use Rattle.svr_token.specs.declared.Word.TheVariants as w
 use Rattle.svr_token.specs.declared.Mark.TheVariants as m
+use Rattle.svr_operator.specs.declared.Fold.{Fold}
+use Rattle.svr_tree.specs.declared.expr.IteratorArgument.{IteratorArgument}
 use Rattle.svr_tree.specs.declared.expr.Scope.{Scope}
 use Rattle.svr_tree.specs.declared.expr.Scope.TheVariants as scope
-use Rattle.svr_tree.specs.Tokens.{Tok, Entry, On, Name, FitEach, mark, word, listed, followed, Each, OneOrMore}
+use Rattle.svr_tree.specs.Tokens.{Tok, Entry, On, Any, Name, FitEach, mark, word, listed, followed, Each, OneOrMore}
 use Rattle.svr_tree.specs.DeclGrammar.{greatest}
-use Rattle.svr_tree.specs.Operators.{unary_mark, binary_mark}
-use Rattle.svr_tree.specs.ExprTree.{ExprTree, number, path, bit_select, part_select, unary, binary, choice, inside, join, copies, sign, paren, ExprTrees, no_exprs, more_exprs, RangeTree, one, span, RangeTrees, no_ranges, more_ranges, exprs_of, ranges_of}
-use Rattle.svr_tree.specs.ExprGrammar.{dotted, names_spelling, scope_spelling, parens_spelling, system_name, expr_spelling, exprs_spelling, exprs_followed, range_spelling, ranges_spelling, ranges_followed, level, start, IsPathAt, is_selectable, IsExpr, AreExprs, EachIsExpr, IsRange, AreRanges, EachIsRange, expr_height, exprs_height, range_height, ranges_height}
-use Rattle.svr_reader.specs.Program.{lexeme_at, number_at}
+use Rattle.svr_tree.specs.Operators.{unary_mark, binary_mark, fold_name, unary_level}
+use Rattle.svr_tree.specs.ExprTree.{ExprTree, number, path, bit_select, part_select, unary, binary, choice, inside, join, copies, sign, paren, reduce, ExprTrees, no_exprs, more_exprs, RangeTree, one, span, RangeTrees, no_ranges, more_ranges, exprs_of, ranges_of}
+use Rattle.svr_tree.specs.ExprGrammar.{dotted, names_spelling, scope_spelling, parens_spelling, argument_spelling, system_name, expr_spelling, exprs_spelling, exprs_followed, range_spelling, ranges_spelling, ranges_followed, level, start, IsPathAt, is_selectable, IsExpr, AreExprs, EachIsExpr, IsRange, AreRanges, EachIsRange, expr_height, exprs_height, range_height, ranges_height}
+use Rattle.svr_reader.specs.Outcomes.{lexeme_at, number_at}
 use Rattle.svr_reader.proofs.Steps.{takes_parts}
-use Rattle.svr_expr.specs.ExprRules.{with_parens, starts}
-use Rattle.svr_expr_laws.proofs.Links.{precedence_pos, precedence_low, operator_starts}
+use Rattle.svr_expr.specs.ExprRules.{with_parens, expr_starts}
+use Rattle.svr_expr_laws.proofs.Connectives.{precedence_pos, precedence_low, operator_starts}
 
 -- ---- heights and levels
 
@@ -32,6 +34,7 @@ height_pos (join at parts) = omega arith
 height_pos (copies at n parts) = omega arith
 height_pos (sign at s e) = omega arith
 height_pos (paren at e) = omega arith
+height_pos (reduce at array op item body) = omega arith
 
 pub level_pos : (t : ExprTree) → 1 ≤ level t
 level_pos (binary at op l r) = precedence_pos op
@@ -39,7 +42,7 @@ level_pos (choice at t met unmet) = omega arith
 level_pos (inside at l set) = omega arith
 level_pos _ = omega arith
 
-pub level_low : (t : ExprTree) → level t ≤ 13
+pub level_low : (t : ExprTree) → level t ≤ unary_level
 level_low (binary at op l r) = let low = precedence_low op in omega (arith, low)
 level_low (choice at t met unmet) = omega arith
 level_low (inside at l set) = omega arith
@@ -151,6 +154,7 @@ with_parens_is (join at parts) h = h
 with_parens_is (copies at n parts) h = h
 with_parens_is (sign at s e) h = h
 with_parens_is (paren at e) h = h
+with_parens_is (reduce at array op item body) h = h
 
 pub with_parens_height : (t : ExprTree) → expr_height (with_parens t) ≡ expr_height t
 with_parens_height (path at s names call) = refl
@@ -171,25 +175,38 @@ with_parens_start (part_select at base first last call) = refl
 with_parens_start _ = refl
 
 -- a path or a select binds like a primary
-pub selectable_level : (t : ExprTree) → is_selectable t ≡ true → level t ≡ 13
+pub selectable_level : (t : ExprTree) → is_selectable t ≡ true → level t ≡ unary_level
 selectable_level (path at s names false) h = refl
 selectable_level (bit_select at base index false) h = refl
 selectable_level (part_select at base first last false) h = refl
 selectable_level _ h = absurd (cc)
 
+-- ---- what stands behind the array of a reduction
+
+-- "with" "(" expr ")"
+abbrev pub with_rest : ExprTree → List Entry
+with_rest body = word w.With ∷ (mark m.OpenParen ∷ (expr_spelling body ++ mark m.CloseParen ∷ []))
+
+-- [ "(" [ NAME ] ")" ] "with" "(" expr ")"
+abbrev pub body_rest : IteratorArgument → ExprTree → List Entry
+body_rest item body = argument_spelling item ++ with_rest body
+
+abbrev pub reduce_rest : Fold → IteratorArgument → ExprTree → List Entry
+reduce_rest op item body = mark m.Dot ∷ (Any (lexeme.Name (fold_name op)) ∷ body_rest item body)
+
 -- ---- what an expression begins with
 
 pub record Begins (t : ExprTree) (i : List Tok) : Type 0 where
   pub at : number_at i ≡ start t
-  pub first : starts (lexeme_at i) ≡ true
+  pub first : expr_starts (lexeme_at i) ≡ true
 
-began : (t : ExprTree) (i : List Tok) (k : ℕ) (q : Lexeme) (es : List Entry) (rest : List Tok) → start t ≡ k → starts (Some q) ≡ true → FitEach i (On k q ∷ es) rest → Begins t i
+began : (t : ExprTree) (i : List Tok) (k : ℕ) (q : Lexeme) (es : List Entry) (rest : List Tok) → start t ≡ k → expr_starts (Some q) ≡ true → FitEach i (On k q ∷ es) rest → Begins t i
 began t [] k q es rest e s h = absurd h
-began t (tok ∷ i) k q es rest e s h = record { at = h.0.0 ∙ sym e; first = ap (λ v. starts (Some v)) h.0.1 ∙ s }
+began t (tok ∷ i) k q es rest e s h = record { at = h.0.0 ∙ sym e; first = ap (λ v. expr_starts (Some v)) h.0.1 ∙ s }
 
 named : (t : ExprTree) (i : List Tok) (k : ℕ) (es : List Entry) (rest : List Tok) → start t ≡ k → FitEach i (Name k ∷ es) rest → Begins t i
 named t [] k es rest e h = absurd h
-named t (tok ∷ i) k es rest e h = record { at = h.0.0 ∙ sym e; first = ap (λ v. starts (Some v)) h.0.1.is }
+named t (tok ∷ i) k es rest e h = record { at = h.0.0 ∙ sym e; first = ap (λ v. expr_starts (Some v)) h.0.1.is }
 
 path_begins : (at : ℕ) (s : Scope) (names : List ℕ) (call : Bool) (i rest : List Tok) → IsPathAt at s names → FitEach i (expr_spelling (path at s names call)) rest → Begins (path at s names call) i
 path_begins at s [] call i rest l h = absurd l
@@ -215,6 +232,8 @@ begins (join at parts) i rest l h = began (join at parts) i at (lexeme.Mark m.Op
 begins (copies at n parts) i rest l h = began (copies at n parts) i at (lexeme.Mark m.OpenBrace) (expr_spelling n ++ mark m.OpenBrace ∷ (exprs_spelling parts ++ mark m.CloseBrace ∷ (mark m.CloseBrace ∷ []))) rest refl refl h
 begins (sign at true e) i rest l h = began (sign at true e) i at (lexeme.System (system_name true)) (mark m.OpenParen ∷ (expr_spelling e ++ mark m.CloseParen ∷ [])) rest refl refl h
 begins (sign at false e) i rest l h = began (sign at false e) i at (lexeme.System (system_name false)) (mark m.OpenParen ∷ (expr_spelling e ++ mark m.CloseParen ∷ [])) rest refl refl h
+begins (reduce at array op item body) i rest l h = let p = takes_parts i (expr_spelling array) (reduce_rest op item body) rest h in
+    let s = begins array i p.0 l.1 p.1 in record { at = s.at ∙ sym l.0; first = s.first }
 begins (paren at e) i rest l h = began (paren at e) i at (lexeme.Mark m.OpenParen) (expr_spelling e ++ mark m.CloseParen ∷ []) rest refl refl h
 
 -- the same of a range
@@ -245,6 +264,7 @@ expr_long (join at parts) l = omega arith
 expr_long (copies at n parts) l = omega arith
 expr_long (sign at s e) l = omega arith
 expr_long (paren at e) l = omega arith
+expr_long (reduce at array op item body) l = long (expr_spelling array) (mark m.Dot) (Any (lexeme.Name (fold_name op)) ∷ body_rest item body)
 
 pub range_long : (x : RangeTree) → IsRange x → 1 ≤ length (range_spelling x)
 range_long (one e) l = expr_long e l

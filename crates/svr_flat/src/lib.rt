@@ -7,8 +7,6 @@ mod items;
 mod laws;
 mod lineage;
 mod memory;
-#[cfg(test)]
-mod tests;
 
 pub use exprs::{copy_expr, copy_exprs};
 pub use inheritance::flatten;

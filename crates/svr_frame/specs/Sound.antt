@@ -1,6 +1,7 @@
 -- The frames that a call can have, and the sizes and cyclic values that fit one (IEEE 1800-2017, 18.3, 18.4 and 18.5).
 use Rattle.std.specs.Prelude.{◌≡◌, ◌==◌, ℕ, zero, suc, ◌+◌, ◌<◌, ◌≤◌, ◌^◌, Bool, true, false, not, ◌&&◌, ◌||◌, List, [], ◌∷◌, Option, None, Some, map, filter, length, slice_index, slice_index_or, ⊤}
 use Rattle.std.specs.List.{list_any, All}
+use Rattle.svr_limits.specs.declared.limit.TheConstants.{ELEMENT_LIMIT, PROPERTY_LIMIT}
 use Rattle.svr_typed.specs.declared.class.NumType.{NumType}
 use Rattle.svr_operator.specs.declared.Rand.{Rand}
 use Rattle.svr_typed.specs.declared.class.ArrayKind.{ArrayKind}
@@ -47,8 +48,8 @@ pub record IsProp (ts : List EnumType) (x : Prop) : Type 0 where
 -- the size that the declaration gives, and the limit of all others
 abbrev pub SizeIsOf : ArrayKind → ℕ → Type 0
 SizeIsOf array.Scalar n = n ≡ 1
-SizeIsOf (array.Fixed m) n = (n ≡ m) × (n ≤ 2048)
-SizeIsOf array.Dynamic n = n ≤ 2048
+SizeIsOf (array.Fixed m) n = (n ≡ m) × (n ≤ ELEMENT_LIMIT)
+SizeIsOf array.Dynamic n = n ≤ ELEMENT_LIMIT
 
 -- ---- what the state has for the targets of `disable soft` fits them, and so many loops stand around an item
 
@@ -201,7 +202,7 @@ module _ (f : FrameTerm) where
     pub below : (p i : ℕ) → (reading_of f.state).element p i < 2 ^ width_of f p
 
   pub record IsSound : Type 0 where
-    pub properties : length f.class.props ≤ 1024
+    pub properties : length f.class.props ≤ PROPERTY_LIMIT
     pub arrays : length (filter (is_array f) (props_of f)) ≤ 32
     pub types : All IsEnum f.enums
     pub props : All (IsProp f.enums) f.class.props
@@ -220,7 +221,7 @@ module _ (f : FrameTerm) where
   -- one size for each property, where those that are not free are the state's
   pub record SizesFit (ns : List ℕ) : Type 0 where
     pub long : length ns ≡ length f.class.props
-    pub most : (p : ℕ) → slice_index ns p ≤ 2048
+    pub most : (p : ℕ) → slice_index ns p ≤ ELEMENT_LIMIT
     pub same : (p : ℕ) → has_free_size f p ≡ false → slice_index ns p ≡ slice_index (state_sizes f) p
 
   abbrev pub AreInDomains : List (ℕ × ℕ) → Type 0

@@ -17,8 +17,6 @@ mod known;
 mod memory;
 mod row;
 mod tables;
-#[cfg(test)]
-mod tests;
 
 pub use builder::Builder;
 pub use memory::NoMemory;

@@ -12,7 +12,7 @@ use Rattle.svr_tree.specs.ExprTree.{ExprTree}
 use Rattle.svr_tree.specs.ItemTree.{DistTree, ElseTree, dist_tree, else_of, item_tree, set_tree, weight_tree}
 use Rattle.svr_reader.specs.declared.fault.ReadFault.{ReadFault}
 use Rattle.svr_reader.specs.Answers.{Gives}
-use Rattle.svr_reader.specs.Calls.{cap, tall_by}
+use Rattle.svr_reader.specs.Calls.{cap, height_view}
 use Rattle.svr_item.specs.ItemRules.{item}
 
 abbrev pub weight_view : Option (Share × Expr) → Option (Share × ExprTree)
@@ -27,5 +27,5 @@ else_view s = else_of (option_map set_tree s)
 -- the function reads items of a height up to the room
 pub record ReadsItems (room : ℕ) (pre : Global → MutBor (List Tok) → ℕ → Type 0) (post : Global → MutBor (List Tok) → ℕ → Result (Item × ℕ) ReadFault → MutBor (List Tok) → Type 0) : Type 0 where
   pub callable : (alloc : Global) (old : MutBor (List Tok)) → pre alloc old room
-  pub gives : (alloc : Global) (old new : MutBor (List Tok)) (r : Result (Item × ℕ) ReadFault) → post alloc old room r new → Gives (tall_by item_tree) (item cap room old.now) r new.now
+  pub gives : (alloc : Global) (old new : MutBor (List Tok)) (r : Result (Item × ℕ) ReadFault) → post alloc old room r new → Gives (height_view item_tree) (item cap room old.now) r new.now
   pub low : (alloc : Global) (old new : MutBor (List Tok)) (r : Result (Item × ℕ) ReadFault) → post alloc old room r new → IfOk r (λ x. x.1 ≤ room)

@@ -1,19 +1,21 @@
 // Items of a block (IEEE 1800-2017, A.1.10, constraint_block_item).
 
-ghost use Rattle.std.specs.Prelude.{◌≡◌, ◌≤◌, ◌<◌, ◌+◌, ◌^◌, IfOk, Err};
+ghost use Rattle.std.specs.Prelude.{◌≡◌, ◌≤◌, ◌<◌, ◌+◌, ◌^◌, IfOk, if◌then◌else◌, length};
+ghost use Rattle.svr_reader.specs.declared.fault.ReadFault.TheVariants.{Unexpected, TooDeep};
+ghost use Rattle.svr_reader.specs.Outcomes.{lexeme_at};
 ghost use Rattle.svr_reader.specs.Answers.{Gives};
-ghost use Rattle.svr_reader.specs.Calls.{cap, tall_by, talls_by};
-ghost use Rattle.svr_reader.specs.Lists.{Tall, no_room};
+ghost use Rattle.svr_reader.specs.Calls.{cap, height_view, heights_view};
 ghost use Rattle.svr_tree.specs.ItemTree.{ItemTree, item_tree};
 ghost use Rattle.svr_item.specs.ItemRules as spec;
 
 use crate::items::item;
-use crate::parts::Parts;
+use crate::reader::Reader;
 use crate::starts::starts_block_item;
 use sqlite_items::Items;
 use std::alloc::Global;
 use svr_reader::{Cursor, Fixed, ReadFault, until};
-use svr_tree::{Item, Lexeme, Mark, Word};
+use svr_token::{Lexeme, Mark, Word};
+use svr_tree::Item;
 
 /// An item of a block, by its first token.
 #[tactic(auto, unfolding(crate::specs::ItemRules::block_item_in, crate::specs::ItemRules::item_in))]
@@ -23,10 +25,10 @@ fn block_item_in(
     room: usize,
 ) -> Result<(Item, usize), ReadFault>
     requires { room + 1 < 2 ^ 64 }
-    ensures gives { Gives (tall_by item_tree) (spec.within cap room spec.block_item_in cursor.old) result cursor.new }
+    ensures gives { Gives (height_view item_tree) (spec.within cap room spec.block_item_in cursor.old) result cursor.new }
     ensures low { IfOk result (λ x. x.1 ≤ room + 1) }
 {
-    let parts = Parts { alloc, room, item };
+    let parts = Reader { alloc, room, item };
     match cursor.peek() {
         Some(Lexeme::Word(Word::Solve)) => parts.solve_item(cursor),
         _ => parts.item_in(cursor),
@@ -35,7 +37,7 @@ fn block_item_in(
 
 /// The fault where there is no room for an item of a block.
 fn no_block_item(cursor: &Cursor<'_>) -> ReadFault
-    ensures { no_room {A = Tall ItemTree} spec.block_starts cursor.now ≡ Err result }
+    ensures { result ≡ (if spec.block_starts (lexeme_at cursor.now) then TooDeep (length cursor.now) else Unexpected (length cursor.now)) }
 {
     if starts_block_item(cursor.peek()) {
         cursor.too_deep()
@@ -53,7 +55,7 @@ pub fn block_item(
     cursor: &mut Cursor<'_>,
     room: usize,
 ) -> Result<(Item, usize), ReadFault>
-    ensures gives { Gives (tall_by item_tree) (spec.block_item cap room cursor.old) result cursor.new }
+    ensures gives { Gives (height_view item_tree) (spec.block_item cap room cursor.old) result cursor.new }
     ensures low { IfOk result (λ x. x.1 ≤ room) }
 {
     if room == 0 {
@@ -71,7 +73,7 @@ pub fn block_items(
     cursor: &mut Cursor<'_>,
     room: usize,
 ) -> Result<(Items<Item>, usize), ReadFault>
-    ensures gives { Gives (talls_by item_tree) (spec.block_items cap room cursor.old) result cursor.new }
+    ensures gives { Gives (heights_view item_tree) (spec.block_items cap room cursor.old) result cursor.new }
     ensures low { IfOk result (λ x. x.1 ≤ room) }
 {
     until(alloc, cursor, Fixed::Mark(Mark::CloseBrace), |cursor| {

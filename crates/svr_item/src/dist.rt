@@ -2,21 +2,22 @@
 
 ghost use Rattle.std.specs.Prelude.{◌≤◌, ◌+◌, ◌<◌, ◌^◌, IfOk};
 ghost use Rattle.svr_reader.specs.Answers.{Gives};
-ghost use Rattle.svr_reader.specs.Calls.{cap, tall_by, talls_by};
+ghost use Rattle.svr_reader.specs.Calls.{cap, height_view, heights_view};
 ghost use Rattle.svr_reader.specs.Lists as lists;
 ghost use Rattle.svr_tree.specs.ItemTree.{dist_item_tree};
 ghost use Rattle.svr_item.specs.ItemRules as spec;
 ghost use Rattle.svr_item.specs.Parts.{weight_view, dist_view};
 
-use crate::parts::Parts;
+use crate::reader::Reader;
 use sqlite_items::Items;
 use std::alloc::Global;
 use svr_expr::{expr, range};
 use svr_operator::Share;
 use svr_reader::{Cursor, Fixed, ReadFault, listing};
-use svr_tree::{Dist, DistItem, Expr, Item, Lexeme, Mark, Word};
+use svr_token::{Lexeme, Mark, Word};
+use svr_tree::{Dist, DistItem, Expr, Item, level};
 
-impl<F: Fn(Global, &mut Cursor<'_>, usize) -> Result<(Item, usize), ReadFault>> Parts<F> {
+impl<F: Fn(Global, &mut Cursor<'_>, usize) -> Result<(Item, usize), ReadFault>> Reader<F> {
     /// A weight behind `:=` or `:/`.
     #[tactic(auto, unfolding(crate::specs::ItemRules::weight_of))]
     fn weight_of(
@@ -24,17 +25,17 @@ impl<F: Fn(Global, &mut Cursor<'_>, usize) -> Result<(Item, usize), ReadFault>> 
         cursor: &mut Cursor<'_>,
         share: Share,
     ) -> Result<(Option<(Share, Expr)>, usize), ReadFault>
-        ensures gives { Gives (tall_by weight_view) (spec.within cap self.now.room (spec.weight_of share) cursor.old) result cursor.new }
+        ensures gives { Gives (height_view weight_view) (spec.within cap self.now.room (spec.weight_of share) cursor.old) result cursor.new }
         ensures low { IfOk result (λ x. x.1 ≤ self.now.room) }
     {
         cursor.take()?;
-        let (weight, height) = expr(self.alloc, cursor, self.room, 1)?;
+        let (weight, height) = expr(self.alloc, cursor, self.room, level::IMPLICATION)?;
         Ok((Some((share, weight)), height))
     }
 
     #[tactic(auto, unfolding(crate::specs::ItemRules::weight))]
     fn weight(&self, cursor: &mut Cursor<'_>) -> Result<(Option<(Share, Expr)>, usize), ReadFault>
-        ensures gives { Gives (tall_by weight_view) (spec.within cap self.now.room spec.weight cursor.old) result cursor.new }
+        ensures gives { Gives (height_view weight_view) (spec.within cap self.now.room spec.weight cursor.old) result cursor.new }
         ensures low { IfOk result (λ x. x.1 ≤ self.now.room) }
     {
         match cursor.peek() {
@@ -46,7 +47,7 @@ impl<F: Fn(Global, &mut Cursor<'_>, usize) -> Result<(Item, usize), ReadFault>> 
 
     #[tactic(auto, unfolding(crate::specs::ItemRules::dist_item))]
     fn dist_item(&self, cursor: &mut Cursor<'_>) -> Result<(DistItem, usize), ReadFault>
-        ensures gives { Gives (tall_by dist_item_tree) (spec.within cap self.now.room spec.dist_item cursor.old) result cursor.new }
+        ensures gives { Gives (height_view dist_item_tree) (spec.within cap self.now.room spec.dist_item cursor.old) result cursor.new }
         ensures low { IfOk result (λ x. x.1 ≤ self.now.room) }
     {
         let (range, range_height) = range(self.alloc, cursor, self.room)?;
@@ -59,33 +60,33 @@ impl<F: Fn(Global, &mut Cursor<'_>, usize) -> Result<(Item, usize), ReadFault>> 
 
     /// Members with commas between them.
     fn dist_items(&self, cursor: &mut Cursor<'_>) -> Result<(Items<DistItem>, usize), ReadFault>
-        ensures gives { Gives (talls_by dist_item_tree) (spec.within cap self.now.room (lists.listing spec.dist_item) cursor.old) result cursor.new }
+        ensures gives { Gives (heights_view dist_item_tree) (spec.within cap self.now.room (lists.listing spec.dist_item) cursor.old) result cursor.new }
         ensures low { IfOk result (λ x. x.1 ≤ self.now.room) }
     {
         listing(self.alloc, cursor, |cursor| self.dist_item(cursor))
     }
 
     /// `dist` and its members in braces.
-    #[tactic(auto, unfolding(crate::specs::ItemRules::distributed))]
-    fn distributed(&self, cursor: &mut Cursor<'_>) -> Result<(Option<Dist>, usize), ReadFault>
-        ensures gives { Gives (tall_by dist_view) (spec.within cap self.now.room spec.distributed cursor.old) result cursor.new }
+    #[tactic(auto, unfolding(crate::specs::ItemRules::dist_on))]
+    fn dist_on(&self, cursor: &mut Cursor<'_>) -> Result<(Option<Dist>, usize), ReadFault>
+        ensures gives { Gives (height_view dist_view) (spec.within cap self.now.room spec.dist_on cursor.old) result cursor.new }
         ensures low { IfOk result (λ x. x.1 ≤ self.now.room) }
     {
         let at = cursor.take()?;
-        self.expect(cursor, Fixed::Mark(Mark::OpenBrace))?;
+        cursor.expect(Fixed::Mark(Mark::OpenBrace))?;
         let (items, height) = self.dist_items(cursor)?;
-        self.expect(cursor, Fixed::Mark(Mark::CloseBrace))?;
+        cursor.expect(Fixed::Mark(Mark::CloseBrace))?;
         Ok((Some(Dist::new(at, items)), height))
     }
 
     /// `dist` and its members, where `dist` comes next.
     #[tactic(auto, unfolding(crate::specs::ItemRules::dist))]
     pub fn dist(&self, cursor: &mut Cursor<'_>) -> Result<(Option<Dist>, usize), ReadFault>
-        ensures gives { Gives (tall_by dist_view) (spec.within cap self.now.room spec.dist cursor.old) result cursor.new }
+        ensures gives { Gives (height_view dist_view) (spec.within cap self.now.room spec.dist cursor.old) result cursor.new }
         ensures low { IfOk result (λ x. x.1 ≤ self.now.room) }
     {
         match cursor.peek() {
-            Some(Lexeme::Word(Word::Dist)) => self.distributed(cursor),
+            Some(Lexeme::Word(Word::Dist)) => self.dist_on(cursor),
             _ => Ok((None, 0)),
         }
     }

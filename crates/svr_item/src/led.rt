@@ -2,7 +2,7 @@
 
 ghost use Rattle.std.specs.Prelude.{◌≡◌, ◌≤◌, ◌<◌, ◌+◌, ◌^◌, IfOk};
 ghost use Rattle.svr_reader.specs.Answers.{Gives};
-ghost use Rattle.svr_reader.specs.Calls.{cap, tall_by, talls_by};
+ghost use Rattle.svr_reader.specs.Calls.{cap, height_view, heights_view};
 ghost use Rattle.svr_reader.specs.Program.{call};
 ghost use Rattle.svr_reader.specs.Lists as lists;
 ghost use Rattle.svr_tree.specs.ExprTree.{expr_tree};
@@ -12,12 +12,13 @@ ghost use Rattle.svr_expr.specs.ExprRules.{a_path, a_member};
 ghost use Rattle.svr_item.specs.ItemRules as spec;
 ghost use Rattle.svr_item.specs.Parts.{ReadsItems, else_view};
 
-use crate::parts::Parts;
+use crate::reader::Reader;
 use sqlite_items::Items;
 use std::alloc::Global;
 use svr_expr::{expr, member, path};
 use svr_reader::{Cursor, Fixed, ReadFault, listing};
-use svr_tree::{Expr, Item, Mark, Set, Word};
+use svr_token::{Mark, Word};
+use svr_tree::{Expr, Item, Set, level};
 
 /// An `if` of these parts.
 fn branch(at: u32, test: Expr, yes: Set, no: Option<Set>) -> Item
@@ -29,22 +30,22 @@ fn branch(at: u32, test: Expr, yes: Set, no: Option<Set>) -> Item
     }
 }
 
-impl<F: Fn(Global, &mut Cursor<'_>, usize) -> Result<(Item, usize), ReadFault>> Parts<F> {
+impl<F: Fn(Global, &mut Cursor<'_>, usize) -> Result<(Item, usize), ReadFault>> Reader<F> {
     /// `soft` and an expression.
     #[tactic(auto, unfolding(crate::specs::ItemRules::soft_item))]
     pub fn soft_item(&self, cursor: &mut Cursor<'_>) -> Result<(Item, usize), ReadFault>
         requires room { self.now.room + 1 < 2 ^ 64 }
-        ensures gives { Gives (tall_by item_tree) (spec.within cap self.now.room spec.soft_item cursor.old) result cursor.new }
+        ensures gives { Gives (height_view item_tree) (spec.within cap self.now.room spec.soft_item cursor.old) result cursor.new }
         ensures low { IfOk result (λ x. x.1 ≤ self.now.room + 1) }
     {
         let at = cursor.enter(self.room, 1)?;
-        let (expr, height) = expr(self.alloc, cursor, self.room, 1)?;
-        self.weighed(cursor, at, true, expr, height)
+        let (expr, height) = expr(self.alloc, cursor, self.room, level::IMPLICATION)?;
+        self.plain_on(cursor, at, true, expr, height)
     }
 
     /// Paths with commas between them.
     fn paths(&self, cursor: &mut Cursor<'_>) -> Result<(Items<Expr>, usize), ReadFault>
-        ensures gives { Gives (talls_by expr_tree) (spec.within cap self.now.room (lists.listing (call (spec.a_node a_path))) cursor.old) result cursor.new }
+        ensures gives { Gives (heights_view expr_tree) (spec.within cap self.now.room (lists.listing (call (spec.a_node a_path))) cursor.old) result cursor.new }
         ensures low { IfOk result (λ x. x.1 ≤ self.now.room) }
     {
         listing(
@@ -56,7 +57,7 @@ impl<F: Fn(Global, &mut Cursor<'_>, usize) -> Result<(Item, usize), ReadFault>> 
 
     /// Paths with indices, with commas between them.
     fn members(&self, cursor: &mut Cursor<'_>) -> Result<(Items<Expr>, usize), ReadFault>
-        ensures gives { Gives (talls_by expr_tree) (spec.within cap self.now.room (lists.listing (call (spec.a_node a_member))) cursor.old) result cursor.new }
+        ensures gives { Gives (heights_view expr_tree) (spec.within cap self.now.room (lists.listing (call (spec.a_node a_member))) cursor.old) result cursor.new }
         ensures low { IfOk result (λ x. x.1 ≤ self.now.room) }
     {
         listing(
@@ -70,14 +71,14 @@ impl<F: Fn(Global, &mut Cursor<'_>, usize) -> Result<(Item, usize), ReadFault>> 
     #[tactic(auto, unfolding(crate::specs::ItemRules::unique_item))]
     pub fn unique_item(&self, cursor: &mut Cursor<'_>) -> Result<(Item, usize), ReadFault>
         requires room { self.now.room + 1 < 2 ^ 64 }
-        ensures gives { Gives (tall_by item_tree) (spec.within cap self.now.room spec.unique_item cursor.old) result cursor.new }
+        ensures gives { Gives (height_view item_tree) (spec.within cap self.now.room spec.unique_item cursor.old) result cursor.new }
         ensures low { IfOk result (λ x. x.1 ≤ self.now.room + 1) }
     {
         let at = cursor.enter(self.room, 1)?;
-        self.expect(cursor, Fixed::Mark(Mark::OpenBrace))?;
+        cursor.expect(Fixed::Mark(Mark::OpenBrace))?;
         let (members, height) = self.members(cursor)?;
-        self.expect(cursor, Fixed::Mark(Mark::CloseBrace))?;
-        self.expect(cursor, Fixed::Mark(Mark::Semicolon))?;
+        cursor.expect(Fixed::Mark(Mark::CloseBrace))?;
+        cursor.expect(Fixed::Mark(Mark::Semicolon))?;
         Ok((Item::unique(at, members), height + 1))
     }
 
@@ -85,13 +86,13 @@ impl<F: Fn(Global, &mut Cursor<'_>, usize) -> Result<(Item, usize), ReadFault>> 
     #[tactic(auto, unfolding(crate::specs::ItemRules::disable_item))]
     pub fn disable_item(&self, cursor: &mut Cursor<'_>) -> Result<(Item, usize), ReadFault>
         requires room { self.now.room + 1 < 2 ^ 64 }
-        ensures gives { Gives (tall_by item_tree) (spec.within cap self.now.room spec.disable_item cursor.old) result cursor.new }
+        ensures gives { Gives (height_view item_tree) (spec.within cap self.now.room spec.disable_item cursor.old) result cursor.new }
         ensures low { IfOk result (λ x. x.1 ≤ self.now.room + 1) }
     {
         let at = cursor.enter(self.room, 1)?;
-        self.expect(cursor, Fixed::Word(Word::Soft))?;
+        cursor.expect(Fixed::Word(Word::Soft))?;
         let (target, height) = member(self.alloc, cursor, self.room)?;
-        self.expect(cursor, Fixed::Mark(Mark::Semicolon))?;
+        cursor.expect(Fixed::Mark(Mark::Semicolon))?;
         Ok((Item::disable(at, target), height + 1))
     }
 
@@ -99,14 +100,14 @@ impl<F: Fn(Global, &mut Cursor<'_>, usize) -> Result<(Item, usize), ReadFault>> 
     #[tactic(auto, unfolding(crate::specs::ItemRules::solve_item))]
     pub fn solve_item(&self, cursor: &mut Cursor<'_>) -> Result<(Item, usize), ReadFault>
         requires room { self.now.room + 1 < 2 ^ 64 }
-        ensures gives { Gives (tall_by item_tree) (spec.within cap self.now.room spec.solve_item cursor.old) result cursor.new }
+        ensures gives { Gives (height_view item_tree) (spec.within cap self.now.room spec.solve_item cursor.old) result cursor.new }
         ensures low { IfOk result (λ x. x.1 ≤ self.now.room + 1) }
     {
         let at = cursor.enter(self.room, 1)?;
         let (first, first_height) = self.paths(cursor)?;
-        self.expect(cursor, Fixed::Word(Word::Before))?;
+        cursor.expect(Fixed::Word(Word::Before))?;
         let (later, later_height) = self.paths(cursor)?;
-        self.expect(cursor, Fixed::Mark(Mark::Semicolon))?;
+        cursor.expect(Fixed::Mark(Mark::Semicolon))?;
         Ok((
             Item::solve(at, first, later),
             first_height.max(later_height) + 1,
@@ -118,13 +119,13 @@ impl<F: Fn(Global, &mut Cursor<'_>, usize) -> Result<(Item, usize), ReadFault>> 
     pub fn branch_item(&self, cursor: &mut Cursor<'_>) -> Result<(Item, usize), ReadFault>
         requires reads { ReadsItems self.now.room (F.pre self.now.item) (F.post self.now.item) }
         requires room { self.now.room + 1 < 2 ^ 64 }
-        ensures gives { Gives (tall_by item_tree) (spec.within cap self.now.room spec.branch_item cursor.old) result cursor.new }
+        ensures gives { Gives (height_view item_tree) (spec.within cap self.now.room spec.branch_item cursor.old) result cursor.new }
         ensures low { IfOk result (λ x. x.1 ≤ self.now.room + 1) }
     {
         let at = cursor.enter(self.room, 1)?;
-        self.expect(cursor, Fixed::Mark(Mark::OpenParen))?;
-        let (test, test_height) = expr(self.alloc, cursor, self.room, 1)?;
-        self.expect(cursor, Fixed::Mark(Mark::CloseParen))?;
+        cursor.expect(Fixed::Mark(Mark::OpenParen))?;
+        let (test, test_height) = expr(self.alloc, cursor, self.room, level::IMPLICATION)?;
+        cursor.expect(Fixed::Mark(Mark::CloseParen))?;
         let (yes, yes_height) = self.set(cursor)?;
         let (no, no_height) = self.otherwise(cursor)?;
         Ok((
@@ -133,24 +134,41 @@ impl<F: Fn(Global, &mut Cursor<'_>, usize) -> Result<(Item, usize), ReadFault>> 
         ))
     }
 
-    /// `foreach (array[var]) set`
+    /// One loop variable, or two.
+    #[tactic(auto, unfolding(crate::specs::ItemRules::loop_vars))]
+    fn loop_vars(&self, cursor: &mut Cursor<'_>) -> Result<Items<u32>, ReadFault>
+        ensures { Gives (λ vars. vars) (spec.within cap self.now.room spec.loop_vars cursor.old) result cursor.new }
+    {
+        let first = cursor.name()?;
+        let mut vars = Items::new(self.alloc);
+        vars.push(first)?;
+        if cursor.eat(Fixed::Mark(Mark::Comma)) {
+            let second = cursor.name()?;
+            vars.push(second)?;
+            Ok(vars)
+        } else {
+            Ok(vars)
+        }
+    }
+
+    /// `foreach (array[vars]) set`
     #[tactic(auto, unfolding(crate::specs::ItemRules::foreach_item))]
     pub fn foreach_item(&self, cursor: &mut Cursor<'_>) -> Result<(Item, usize), ReadFault>
         requires reads { ReadsItems self.now.room (F.pre self.now.item) (F.post self.now.item) }
         requires room { self.now.room + 1 < 2 ^ 64 }
-        ensures gives { Gives (tall_by item_tree) (spec.within cap self.now.room spec.foreach_item cursor.old) result cursor.new }
+        ensures gives { Gives (height_view item_tree) (spec.within cap self.now.room spec.foreach_item cursor.old) result cursor.new }
         ensures low { IfOk result (λ x. x.1 ≤ self.now.room + 1) }
     {
         let at = cursor.enter(self.room, 1)?;
-        self.expect(cursor, Fixed::Mark(Mark::OpenParen))?;
+        cursor.expect(Fixed::Mark(Mark::OpenParen))?;
         let (array, array_height) = path(self.alloc, cursor, self.room)?;
-        self.expect(cursor, Fixed::Mark(Mark::OpenBracket))?;
-        let var = self.name(cursor)?;
-        self.expect(cursor, Fixed::Mark(Mark::CloseBracket))?;
-        self.expect(cursor, Fixed::Mark(Mark::CloseParen))?;
+        cursor.expect(Fixed::Mark(Mark::OpenBracket))?;
+        let vars = self.loop_vars(cursor)?;
+        cursor.expect(Fixed::Mark(Mark::CloseBracket))?;
+        cursor.expect(Fixed::Mark(Mark::CloseParen))?;
         let (body, body_height) = self.set(cursor)?;
         Ok((
-            Item::foreach(at, array, var, body),
+            Item::foreach(at, array, vars, body),
             array_height.max(body_height) + 1,
         ))
     }

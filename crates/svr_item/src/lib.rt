@@ -5,14 +5,12 @@
 
 mod block;
 mod dist;
+mod expr_items;
 mod items;
 mod led;
-mod parts;
+mod reader;
 mod sets;
 mod starts;
-mod stated;
-#[cfg(test)]
-mod tests;
 
 pub use block::{block_item, block_items};
 pub use items::{item, set_items};

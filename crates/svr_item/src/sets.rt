@@ -2,23 +2,24 @@
 
 ghost use Rattle.std.specs.Prelude.{◌≡◌, ◌≤◌, IfOk};
 ghost use Rattle.svr_reader.specs.Answers.{Gives};
-ghost use Rattle.svr_reader.specs.Calls.{cap, tall_by, talls_by};
+ghost use Rattle.svr_reader.specs.Calls.{cap, height_view, heights_view};
 ghost use Rattle.svr_tree.specs.ItemTree.{item_tree, set_tree};
 ghost use Rattle.svr_item.specs.ItemRules as spec;
 ghost use Rattle.svr_item.specs.Parts.{ReadsItems, else_view};
 
-use crate::parts::Parts;
+use crate::reader::Reader;
 use sqlite_items::Items;
 use std::alloc::Global;
 use svr_reader::{Cursor, Fixed, ReadFault, until};
-use svr_tree::{Item, Mark, Set, Word};
+use svr_token::{Mark, Word};
+use svr_tree::{Item, Set};
 
-impl<F: Fn(Global, &mut Cursor<'_>, usize) -> Result<(Item, usize), ReadFault>> Parts<F> {
+impl<F: Fn(Global, &mut Cursor<'_>, usize) -> Result<(Item, usize), ReadFault>> Reader<F> {
     /// Items up to the closing brace, which is taken.
     #[tactic(auto, unfolding(crate::specs::ItemRules::items))]
     pub fn items(&self, cursor: &mut Cursor<'_>) -> Result<(Items<Item>, usize), ReadFault>
         requires reads { ReadsItems self.now.room (F.pre self.now.item) (F.post self.now.item) }
-        ensures gives { Gives (talls_by item_tree) (spec.within cap self.now.room spec.items cursor.old) result cursor.new }
+        ensures gives { Gives (heights_view item_tree) (spec.within cap self.now.room spec.items cursor.old) result cursor.new }
         ensures low { IfOk result (λ x. x.1 ≤ self.now.room) }
     {
         until(
@@ -33,7 +34,7 @@ impl<F: Fn(Global, &mut Cursor<'_>, usize) -> Result<(Item, usize), ReadFault>> 
     #[tactic(auto, unfolding(crate::specs::ItemRules::braced_set))]
     fn braced_set(&self, cursor: &mut Cursor<'_>) -> Result<(Set, usize), ReadFault>
         requires reads { ReadsItems self.now.room (F.pre self.now.item) (F.post self.now.item) }
-        ensures gives { Gives (tall_by set_tree) (spec.within cap self.now.room spec.braced_set cursor.old) result cursor.new }
+        ensures gives { Gives (height_view set_tree) (spec.within cap self.now.room spec.braced_set cursor.old) result cursor.new }
         ensures low { IfOk result (λ x. x.1 ≤ self.now.room) }
     {
         let (items, height) = self.items(cursor)?;
@@ -44,7 +45,7 @@ impl<F: Fn(Global, &mut Cursor<'_>, usize) -> Result<(Item, usize), ReadFault>> 
     #[tactic(auto, unfolding(crate::specs::ItemRules::single_set))]
     fn single_set(&self, cursor: &mut Cursor<'_>) -> Result<(Set, usize), ReadFault>
         requires reads { ReadsItems self.now.room (F.pre self.now.item) (F.post self.now.item) }
-        ensures gives { Gives (tall_by set_tree) (spec.within cap self.now.room spec.single_set cursor.old) result cursor.new }
+        ensures gives { Gives (height_view set_tree) (spec.within cap self.now.room spec.single_set cursor.old) result cursor.new }
         ensures low { IfOk result (λ x. x.1 ≤ self.now.room) }
     {
         let (item, height) = self.part(cursor)?;
@@ -57,10 +58,10 @@ impl<F: Fn(Global, &mut Cursor<'_>, usize) -> Result<(Item, usize), ReadFault>> 
     #[tactic(auto, unfolding(crate::specs::ItemRules::item_set))]
     pub fn set(&self, cursor: &mut Cursor<'_>) -> Result<(Set, usize), ReadFault>
         requires reads { ReadsItems self.now.room (F.pre self.now.item) (F.post self.now.item) }
-        ensures gives { Gives (tall_by set_tree) (spec.within cap self.now.room spec.item_set cursor.old) result cursor.new }
+        ensures gives { Gives (height_view set_tree) (spec.within cap self.now.room spec.item_set cursor.old) result cursor.new }
         ensures low { IfOk result (λ x. x.1 ≤ self.now.room) }
     {
-        if self.eat(cursor, Fixed::Mark(Mark::OpenBrace))? {
+        if cursor.eat(Fixed::Mark(Mark::OpenBrace)) {
             self.braced_set(cursor)
         } else {
             self.single_set(cursor)
@@ -71,10 +72,10 @@ impl<F: Fn(Global, &mut Cursor<'_>, usize) -> Result<(Item, usize), ReadFault>> 
     #[tactic(auto, unfolding(crate::specs::ItemRules::otherwise, crate::specs::ItemRules::else_branch))]
     pub fn otherwise(&self, cursor: &mut Cursor<'_>) -> Result<(Option<Set>, usize), ReadFault>
         requires reads { ReadsItems self.now.room (F.pre self.now.item) (F.post self.now.item) }
-        ensures gives { Gives (tall_by else_view) (spec.within cap self.now.room spec.otherwise cursor.old) result cursor.new }
+        ensures gives { Gives (height_view else_view) (spec.within cap self.now.room spec.otherwise cursor.old) result cursor.new }
         ensures low { IfOk result (λ x. x.1 ≤ self.now.room) }
     {
-        if self.eat(cursor, Fixed::Word(Word::Else))? {
+        if cursor.eat(Fixed::Word(Word::Else)) {
             let (set, height) = self.set(cursor)?;
             Ok((Some(set), height))
         } else {

@@ -1,27 +1,10 @@
 // What an item begins with.
 
 ghost use Rattle.std.specs.Prelude.{◌≡◌};
-ghost use Rattle.svr_expr.specs.ExprRules as exprs;
 ghost use Rattle.svr_item.specs.ItemRules as spec;
 
-use svr_expr::unary_of;
-use svr_tree::{Lexeme, Mark, Word};
-
-fn starts_expr(lexeme: Option<Lexeme>) -> bool
-    ensures { result ≡ exprs.starts lexeme }
-{
-    match lexeme {
-        Some(Lexeme::Literal { .. }) => true,
-        Some(Lexeme::Name(_)) => true,
-        Some(Lexeme::System(_)) => true,
-        Some(Lexeme::Word(Word::Local)) => true,
-        Some(Lexeme::Word(Word::This)) => true,
-        Some(Lexeme::Mark(Mark::OpenParen)) => true,
-        Some(Lexeme::Mark(Mark::OpenBrace)) => true,
-        Some(Lexeme::Mark(mark)) => unary_of(mark).is_some(),
-        _ => false,
-    }
-}
+use svr_expr::starts_expr;
+use svr_token::{Lexeme, Word};
 
 /// Whether an item begins with the token.
 pub(crate) fn starts_item(lexeme: Option<Lexeme>) -> bool

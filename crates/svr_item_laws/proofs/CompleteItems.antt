@@ -4,20 +4,21 @@ use Rattle.svr_token.specs.declared.Lexeme.{Lexeme}
 use Rattle.svr_token.specs.declared.Lexeme.TheVariants as lexeme
 use Rattle.svr_token.specs.declared.Word.TheVariants as w
 use Rattle.svr_token.specs.declared.Mark.TheVariants as m
-use Rattle.svr_tree.specs.Tokens.{Tok, Entry, On, FitEach, Name, mark, word}
+use Rattle.svr_tree.specs.Tokens.{Tok, Entry, On, FitEach, mark, word, names_listed}
 use Rattle.svr_tree.specs.ExprTree.{ExprTree}
 use Rattle.svr_tree.specs.ExprGrammar.{expr_spelling, exprs_spelling, IsExpr}
 use Rattle.svr_tree.specs.ItemTree.{ItemTree, plain, unique, implies, branch, foreach, disable, solve, items_of}
 use Rattle.svr_tree.specs.ItemGrammar.{dist_spelling, item_spelling, set_spelling, else_spelling, takes_else, IsItem, AreItems, IsBlockItem, AreBlockItems, item_height}
-use Rattle.svr_reader.specs.Program.{call, Parser, lexeme_at, run}
-use Rattle.svr_reader.specs.Lists.{Tall}
+use Rattle.svr_reader.specs.Outcomes.{Parser, lexeme_at}
+use Rattle.svr_reader.specs.Program.{call, run}
+use Rattle.svr_reader.specs.Lists.{WithHeight}
 use Rattle.svr_reader.proofs.Steps.{takes_parts, lexeme_on}
 use Rattle.svr_reader.proofs.Live.{AnyToken}
 use Rattle.svr_reader.proofs.Layers.{IsComplete}
 use Rattle.svr_reader.proofs.Lists.{until_complete}
-use Rattle.svr_expr.specs.ExprRules.{starts}
+use Rattle.svr_expr.specs.ExprRules.{expr_starts}
 use Rattle.svr_expr_laws.proofs.Trees.{begins}
-use Rattle.svr_item.specs.ItemRules.{Reader, item_by, item_in, block_item_by, block_item_in, item_starts, part, item, block_item, set_items, block_items}
+use Rattle.svr_item.specs.ItemRules.{Rule, item_by, item_in, block_item_by, block_item_in, item_starts, part, item, block_item, set_items, block_items}
 use Rattle.svr_item_laws.proofs.Trees.{NotElse, close_brace, items_spelling_is, items_height_is, items_are, block_items_are, item_pos}
 use Rattle.svr_item_laws.proofs.Sound.{ended_spelling, all_height}
 use Rattle.svr_item_laws.proofs.Firsts.{block_item_long, block_item_free}
@@ -26,7 +27,7 @@ use Rattle.svr_item_laws.proofs.Complete.{solve_any, block_word, item_in_complet
 
 -- ---- what an item begins with
 
-starts_item : (q : Option Lexeme) → starts q ≡ true → item_starts q ≡ true
+starts_item : (q : Option Lexeme) → expr_starts q ≡ true → item_starts q ≡ true
 starts_item (Some (lexeme.Word w.Soft)) h = refl
 starts_item (Some (lexeme.Word w.Unique)) h = refl
 starts_item (Some (lexeme.Word w.If)) h = refl
@@ -46,15 +47,15 @@ item_first (plain at false e d) i rest l h = expr_first e i rest (dist_spelling 
 item_first (unique at members) i rest l h = word_first (lexeme.Word w.Unique) at i rest (mark m.OpenBrace ∷ (exprs_spelling members ++ mark m.CloseBrace ∷ (mark m.Semicolon ∷ []))) refl h
 item_first (implies at t body) i rest l h = expr_first t i rest (mark m.Arrow ∷ set_spelling body) l.1 h
 item_first (branch at t met unmet) i rest l h = word_first (lexeme.Word w.If) at i rest (mark m.OpenParen ∷ (expr_spelling t ++ mark m.CloseParen ∷ (set_spelling met ++ else_spelling unmet))) refl h
-item_first (foreach at a v body) i rest l h =
-    word_first (lexeme.Word w.Foreach) at i rest (mark m.OpenParen ∷ (expr_spelling a ++ mark m.OpenBracket ∷ (Name v ∷ (mark m.CloseBracket ∷ (mark m.CloseParen ∷ set_spelling body))))) refl h
+item_first (foreach at a vars body) i rest l h =
+    word_first (lexeme.Word w.Foreach) at i rest (mark m.OpenParen ∷ (expr_spelling a ++ mark m.OpenBracket ∷ (names_listed vars ++ mark m.CloseBracket ∷ (mark m.CloseParen ∷ set_spelling body)))) refl h
 item_first (disable at target) i rest l h = word_first (lexeme.Word w.Disable) at i rest (word w.Soft ∷ (expr_spelling target ++ mark m.Semicolon ∷ [])) refl h
 item_first (solve at first later) i rest l h = absurd l
 
 -- ---- items that stand directly in a block
 
-module _ (most r : ℕ) (roomy : r ≤ most) (below : Parser (Tall ItemTree)) (ok : CompletesItems IsItem most r below) where
-  abbrev R : {A : Type 0} → Reader A → Parser A
+module _ (most r : ℕ) (roomy : r ≤ most) (below : Parser (WithHeight ItemTree)) (ok : CompletesItems IsItem most r below) where
+  abbrev R : {A : Type 0} → Rule A → Parser A
   R p = run most r (part most r below) p
 
   block_by_item : (q : Option Lexeme) (i : List Tok) → item_starts q ≡ true → R (block_item_by q) i ≡ R (item_by q) i
@@ -106,7 +107,7 @@ unfolding block_items
 block_items_complete most r roomy = record {
   at = λ xs i rest few l low h c.
       let high = items_height_is xs in
-      (until_complete {K = Unit {0}} {Ans = λ _. Tall ItemTree} most r (λ _. block_item most r) (call tt) item_spelling IsBlockItem item_height close_brace r NotElse (block_item_complete most r roomy) block_item_long block_item_free refl).at
+      (until_complete {K = Unit {0}} {Ans = λ _. WithHeight ItemTree} most r (λ _. block_item most r) (call tt) item_spelling IsBlockItem item_height close_brace r NotElse (block_item_complete most r roomy) block_item_long block_item_free refl).at
       xs i rest few (block_items_are xs l) (subst (λ z. z ≤ r) high low) (subst (λ es. FitEach i (es ++ mark m.CloseBrace ∷ []) rest) (items_spelling_is xs) h) c
       ∙ ap (λ z. Ok ((xs, z), rest)) (sym high);
 }

@@ -12,20 +12,21 @@ use Rattle.svr_tree.specs.ExprTree.{ExprTree}
 use Rattle.svr_tree.specs.ExprGrammar.{expr_spelling, range_spelling, IsExpr, expr_height, range_height}
 use Rattle.svr_tree.specs.ItemTree.{DistTree, ItemTree, plain}
 use Rattle.svr_tree.specs.ItemGrammar.{weight_spelling, dist_item_spelling, dist_spelling, IsPath, IsMember, IsWeight, IsDistItem, IsDist, weight_height, dist_height}
+use Rattle.svr_reader.specs.Outcomes.{Parser, lexeme_at}
 use Rattle.svr_reader.specs.declared.fixed.Fixed.TheVariants as f
-use Rattle.svr_reader.specs.Program.{bind, peek, call, Parser, lexeme_at, run}
-use Rattle.svr_reader.specs.Steps.{same_word, same_mark, is_fixed, expect}
-use Rattle.svr_reader.specs.Lists.{Tall, listing}
+use Rattle.svr_reader.specs.Program.{bind, peek, call, run, expect}
+use Rattle.svr_reader.specs.Steps.{same_word, same_mark, is_fixed}
+use Rattle.svr_reader.specs.Lists.{WithHeight, listing}
 use Rattle.svr_reader.proofs.Steps.{bind_is, takes_parts, takes_less, lexeme_of, expects}
 use Rattle.svr_reader.proofs.Layers.{IsComplete}
 use Rattle.svr_reader.proofs.Lists.{listing_complete}
-use Rattle.svr_expr.specs.Links.{binds}
+use Rattle.svr_expr.specs.Connectives.{binds}
 use Rattle.svr_expr.specs.ExprRules.{a_path, a_member, expr, a_range}
 use Rattle.svr_expr_laws.proofs.Trees.{level_pos}
 use Rattle.svr_expr_laws.proofs.CompleteParts.{before_mark, sees_none}
 use Rattle.svr_expr_laws.proofs.Complete.{expr_complete}
 use Rattle.svr_expr_laws.proofs.Nodes.{NotDot, NotSelect, a_path_complete, a_member_complete, a_range_complete}
-use Rattle.svr_item.specs.ItemRules.{Part, Ans, Reader, a_node, weight_of, weight_by, weight, dist_item, distributed, dist_by, dist, weighed, part}
+use Rattle.svr_item.specs.ItemRules.{Part, Ans, Rule, a_node, weight_of, weight_by, weight, dist_item, dist_on, dist_by, dist, plain_on, part}
 use Rattle.svr_item_laws.proofs.Trees.{dist_item_height, dist_height_is, dist_item_long, path_long, member_long}
 
 -- ---- tokens that may follow
@@ -84,11 +85,11 @@ weight_first None i rest h c = subst (λ z. binds (lexeme_at z) < 1) (sym h) c
 weight_first (Some (share.Each, e)) i rest h c = before_mark m.ColonEqual refl i rest (expr_spelling e) h
 weight_first (Some (share.Whole, e)) i rest h c = before_mark m.ColonSlash refl i rest (expr_spelling e) h
 
-module _ (most r : ℕ) (roomy : r ≤ most) (below : Parser (Tall ItemTree)) where
+module _ (most r : ℕ) (roomy : r ≤ most) (below : Parser (WithHeight ItemTree)) where
   abbrev sub : (k : Part) → Parser (Ans k)
   sub = part most r below
 
-  abbrev R : {A : Type 0} → Reader A → Parser A
+  abbrev R : {A : Type 0} → Rule A → Parser A
   R p = run most r sub p
 
   pub any_at : (x : ExprTree) (i rest : List Tok) → length i ≤ most + length rest → IsExpr x → expr_height x ≤ r → FitEach i (expr_spelling x) rest → binds (lexeme_at rest) < 1 → expr most r 1 i ≡ Ok ((x, expr_height x), rest)
@@ -133,10 +134,10 @@ module _ (most r : ℕ) (roomy : r ≤ most) (below : Parser (Tall ItemTree)) wh
   dist_stops (Some (lexeme.Word w.Dist)) i c = absurd (cc)
   dist_stops _ i c = refl
 
-  distributed_complete : (d : DistTree) (t : Tok) (i rest : List Tok) → length i ≤ most + length rest → t.at ≡ d.at → OneOrMore IsDistItem d.items → dist_height (Some d) ≤ r → FitEach i (mark m.OpenBrace ∷ (listed dist_item_spelling d.items ++ mark m.CloseBrace ∷ [])) rest
-      → R distributed (t ∷ i) ≡ Ok ((Some d, dist_height (Some d)), rest)
-  unfolding distributed
-  distributed_complete d t i rest few at l low h =
+  dist_on_complete : (d : DistTree) (t : Tok) (i rest : List Tok) → length i ≤ most + length rest → t.at ≡ d.at → OneOrMore IsDistItem d.items → dist_height (Some d) ≤ r → FitEach i (mark m.OpenBrace ∷ (listed dist_item_spelling d.items ++ mark m.CloseBrace ∷ [])) rest
+      → R dist_on (t ∷ i) ≡ Ok ((Some d, dist_height (Some d)), rest)
+  unfolding dist_on
+  dist_on_complete d t i rest few at l low h =
       let o = takes_parts i (mark m.OpenBrace ∷ []) (listed dist_item_spelling d.items ++ mark m.CloseBrace ∷ []) rest h in
       let p = takes_parts o.0 (listed dist_item_spelling d.items) (mark m.CloseBrace ∷ []) rest o.2 in
       let a1 = takes_less i (mark m.OpenBrace ∷ []) o.0 o.1 in
@@ -158,12 +159,12 @@ module _ (most r : ℕ) (roomy : r ≤ most) (below : Parser (Tall ItemTree)) wh
       by : (d : Option DistTree) (i rest : List Tok) → length i ≤ most + length rest → IsDist d → dist_height d ≤ r → FitEach i (dist_spelling d) rest → NotDist (lexeme_at rest) → R (bind peek dist_by) i ≡ Ok ((d, dist_height d), rest)
       by None i rest few l low h c = dist_stops (lexeme_at i) i (subst (λ z. NotDist (lexeme_at z)) (sym h) c) ∙ ap (λ z. Ok ((None, 0), z)) h
       by (Some d) [] rest few l low h c = absurd h
-      by (Some d) (t ∷ i) rest few l low h c = ap (λ q. R (dist_by (Some q)) (t ∷ i)) h.0.1 ∙ distributed_complete d t i rest (omega (arith, few)) h.0.0 l low h.1
+      by (Some d) (t ∷ i) rest few l low h c = ap (λ q. R (dist_by (Some q)) (t ∷ i)) h.0.1 ∙ dist_on_complete d t i rest (omega (arith, few)) h.0.0 l low h.1
 
-  pub weighed_complete : (at : ℕ) (soft : Bool) (e : ExprTree) (d : Option DistTree) (i rest : List Tok) → length i ≤ most + length rest → IsDist d → dist_height d ≤ r → FitEach i (dist_spelling d ++ mark m.Semicolon ∷ []) rest
-      → R (weighed at soft (e, expr_height e)) i ≡ Ok ((plain at soft e d, max (expr_height e) (dist_height d) + 1), rest)
-  unfolding weighed same_word
-  weighed_complete at soft e d i rest few l low h =
+  pub plain_on_complete : (at : ℕ) (soft : Bool) (e : ExprTree) (d : Option DistTree) (i rest : List Tok) → length i ≤ most + length rest → IsDist d → dist_height d ≤ r → FitEach i (dist_spelling d ++ mark m.Semicolon ∷ []) rest
+      → R (plain_on at soft (e, expr_height e)) i ≡ Ok ((plain at soft e d, max (expr_height e) (dist_height d) + 1), rest)
+  unfolding plain_on same_word
+  plain_on_complete at soft e d i rest few l low h =
       let p = takes_parts i (dist_spelling d) (mark m.Semicolon ∷ []) rest h in
       let z1 = takes_less p.0 (mark m.Semicolon ∷ []) rest p.2 in
       bind_is (R dist i) _ (d, dist_height d) p.0 _ (dist_complete.at d i p.0 (omega (arith, few, z1)) l low p.1 (sees_none (f.Word w.Dist) m.Semicolon refl p.0 rest [] p.2))

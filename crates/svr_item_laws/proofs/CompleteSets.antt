@@ -8,32 +8,33 @@ use Rattle.svr_tree.specs.DeclGrammar.{greatest}
 use Rattle.svr_tree.specs.ExprTree.{ExprTree}
 use Rattle.svr_tree.specs.ItemTree.{ItemTree, branch, ItemTrees, no_items, more_items, items_of, SetTree, set, ElseTree, no_else, else_set}
 use Rattle.svr_tree.specs.ItemGrammar.{item_spelling, items_spelling, set_spelling, else_spelling, takes_else, set_takes_else, IsItem, AreItems, IsSet, IsElse, item_height, items_height, set_height, else_height}
-use Rattle.svr_reader.specs.Program.{pure, call, Parser, lexeme_at, run}
-use Rattle.svr_reader.specs.Lists.{Tall}
+use Rattle.svr_reader.specs.Outcomes.{Parser, lexeme_at}
+use Rattle.svr_reader.specs.Program.{pure, call, run}
+use Rattle.svr_reader.specs.Lists.{WithHeight}
 use Rattle.svr_reader.proofs.Steps.{bind_is, takes_parts, takes_less, led_takes, led_no}
 use Rattle.svr_reader.proofs.Live.{AnyToken}
 use Rattle.svr_reader.proofs.Layers.{IsComplete}
 use Rattle.svr_reader.proofs.Lists.{until_complete}
-use Rattle.svr_item.specs.ItemRules.{Part, Ans, Reader, an_item, items, braced_set, single_set, item_set, else_branch, otherwise, part}
+use Rattle.svr_item.specs.ItemRules.{Part, Ans, Rule, an_item, items, braced_set, single_set, item_set, else_branch, otherwise, part}
 use Rattle.svr_item_laws.proofs.Trees.{NotElse, open_brace, close_brace, else_word, list_of_items, items_list_is, items_spelling_is, items_height_is, items_are}
 use Rattle.svr_item_laws.proofs.Firsts.{item_long, item_free, item_unbraced}
 
 -- such an item is read, before any token that is no `else` which it could take
-abbrev pub CompletesItems : (ItemTree → Type 0) → ℕ → ℕ → Parser (Tall ItemTree) → Type 0
+abbrev pub CompletesItems : (ItemTree → Type 0) → ℕ → ℕ → Parser (WithHeight ItemTree) → Type 0
 CompletesItems Is most r p = (x : ItemTree) (i rest : List Tok) → length i ≤ most + length rest → Is x → item_height x ≤ r → FitEach i (item_spelling x) rest → (takes_else x ≡ true → NotElse (lexeme_at rest)) → p i ≡ Ok ((x, item_height x), rest)
 
-pub complete_items : {Is : ItemTree → Type 0} {most r : ℕ} {p : Parser (Tall ItemTree)} → CompletesItems Is most r p → IsComplete item_spelling Is item_height most r NotElse p
+pub complete_items : {Is : ItemTree → Type 0} {most r : ℕ} {p : Parser (WithHeight ItemTree)} → CompletesItems Is most r p → IsComplete item_spelling Is item_height most r NotElse p
 complete_items v = record { at = λ x i rest few l low h c. v x i rest few l low h (λ _. c) }
 
-module _ (most r : ℕ) (below : Parser (Tall ItemTree)) (ok : CompletesItems IsItem most r below) where
+module _ (most r : ℕ) (below : Parser (WithHeight ItemTree)) (ok : CompletesItems IsItem most r below) where
   abbrev sub : (k : Part) → Parser (Ans k)
   sub = part most r below
 
-  abbrev R : {A : Type 0} → Reader A → Parser A
+  abbrev R : {A : Type 0} → Rule A → Parser A
   R p = run most r sub p
 
   abbrev items_ended : List ItemTree → List Entry
-  items_ended xs = tokens.run item_spelling xs ++ mark m.CloseBrace ∷ []
+  items_ended xs = tokens.each_spelling item_spelling xs ++ mark m.CloseBrace ∷ []
 
   pub items_complete : IsComplete items_ended (Each IsItem) (greatest item_height) most r AnyToken (R items)
   unfolding items

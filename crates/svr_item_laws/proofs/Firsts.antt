@@ -5,16 +5,16 @@ use Rattle.svr_token.specs.declared.Lexeme.TheVariants as lexeme
 use Rattle.svr_token.specs.declared.Word.{Word}
 use Rattle.svr_token.specs.declared.Word.TheVariants as w
 use Rattle.svr_token.specs.declared.Mark.TheVariants as m
-use Rattle.svr_tree.specs.Tokens.{Tok, Entry, FitEach, Name, mark, word, word_on, OneOrMore}
+use Rattle.svr_tree.specs.Tokens.{Tok, Entry, FitEach, mark, word, word_on, names_listed, OneOrMore}
 use Rattle.svr_tree.specs.DeclGrammar.{greatest}
 use Rattle.svr_tree.specs.ExprTree.{ExprTree}
 use Rattle.svr_tree.specs.ExprGrammar.{expr_spelling, exprs_spelling, IsExpr, expr_height}
 use Rattle.svr_tree.specs.ItemTree.{ItemTree, plain, unique, implies, branch, foreach, disable, solve}
 use Rattle.svr_tree.specs.ItemGrammar.{dist_spelling, item_spelling, set_spelling, else_spelling, item_is_braced, IsItem, IsBlockItem}
-use Rattle.svr_reader.specs.Program.{lexeme_at}
+use Rattle.svr_reader.specs.Outcomes.{lexeme_at}
 use Rattle.svr_reader.specs.Steps.{same_word, same_mark, is_fixed, sees}
 use Rattle.svr_reader.proofs.Steps.{takes_parts, lexeme_on}
-use Rattle.svr_expr.specs.ExprRules.{starts}
+use Rattle.svr_expr.specs.ExprRules.{expr_starts}
 use Rattle.svr_expr_laws.proofs.Trees.{height_pos, begins, expr_long}
 use Rattle.svr_item_laws.proofs.Trees.{NotElse, open_brace, close_brace, else_word, unbraced}
 use Rattle.svr_item_laws.proofs.Sound.{block_of}
@@ -30,7 +30,7 @@ block_item_long (plain at false e d) l = long e (dist_spelling d ++ mark m.Semic
 block_item_long (unique at members) l = omega arith
 block_item_long (implies at t body) l = long t (mark m.Arrow ∷ set_spelling body) l.1
 block_item_long (branch at t met unmet) l = omega arith
-block_item_long (foreach at a v body) l = omega arith
+block_item_long (foreach at a vars body) l = omega arith
 block_item_long (disable at target) l = omega arith
 block_item_long (solve at first later) l = omega arith
 
@@ -42,7 +42,7 @@ item_long x l = block_item_long x (block_of x l)
 abbrev pub IsFree : Option Lexeme → Type 0
 IsFree q = NotElse q × (is_fixed close_brace q ≡ false)
 
-starts_free : (q : Option Lexeme) → starts q ≡ true → IsFree q
+starts_free : (q : Option Lexeme) → expr_starts q ≡ true → IsFree q
 unfolding same_word same_mark
 starts_free (Some (lexeme.Word w.Else)) h = absurd (cc)
 starts_free (Some (lexeme.Mark m.CloseBrace)) h = absurd (cc)
@@ -61,7 +61,7 @@ block_item_free (plain at false e d) i rest l h = expr_free e i rest (dist_spell
 block_item_free (unique at members) i rest l h = word_free w.Unique at i rest (mark m.OpenBrace ∷ (exprs_spelling members ++ mark m.CloseBrace ∷ (mark m.Semicolon ∷ []))) refl h
 block_item_free (implies at t body) i rest l h = expr_free t i rest (mark m.Arrow ∷ set_spelling body) l.1 h
 block_item_free (branch at t met unmet) i rest l h = word_free w.If at i rest (mark m.OpenParen ∷ (expr_spelling t ++ mark m.CloseParen ∷ (set_spelling met ++ else_spelling unmet))) refl h
-block_item_free (foreach at a v body) i rest l h = word_free w.Foreach at i rest (mark m.OpenParen ∷ (expr_spelling a ++ mark m.OpenBracket ∷ (Name v ∷ (mark m.CloseBracket ∷ (mark m.CloseParen ∷ set_spelling body))))) refl h
+block_item_free (foreach at a vars body) i rest l h = word_free w.Foreach at i rest (mark m.OpenParen ∷ (expr_spelling a ++ mark m.OpenBracket ∷ (names_listed vars ++ mark m.CloseBracket ∷ (mark m.CloseParen ∷ set_spelling body)))) refl h
 block_item_free (disable at target) i rest l h = word_free w.Disable at i rest (word w.Soft ∷ (expr_spelling target ++ mark m.Semicolon ∷ [])) refl h
 block_item_free (solve at first later) i rest l h = word_free w.Solve at i rest (exprs_spelling first ++ word w.Before ∷ (exprs_spelling later ++ mark m.Semicolon ∷ [])) refl h
 
@@ -79,7 +79,7 @@ item_unbraced (plain at false e d) i rest l b h = let p = takes_parts i (expr_sp
 item_unbraced (unique at members) i rest l b h = word_unbraced w.Unique at i rest (mark m.OpenBrace ∷ (exprs_spelling members ++ mark m.CloseBrace ∷ (mark m.Semicolon ∷ []))) h
 item_unbraced (implies at t body) i rest l b h = let p = takes_parts i (expr_spelling t) (mark m.Arrow ∷ set_spelling body) rest h in unbraced t i p.0 l.1 b p.1
 item_unbraced (branch at t met unmet) i rest l b h = word_unbraced w.If at i rest (mark m.OpenParen ∷ (expr_spelling t ++ mark m.CloseParen ∷ (set_spelling met ++ else_spelling unmet))) h
-item_unbraced (foreach at a v body) i rest l b h = word_unbraced w.Foreach at i rest (mark m.OpenParen ∷ (expr_spelling a ++ mark m.OpenBracket ∷ (Name v ∷ (mark m.CloseBracket ∷ (mark m.CloseParen ∷ set_spelling body))))) h
+item_unbraced (foreach at a vars body) i rest l b h = word_unbraced w.Foreach at i rest (mark m.OpenParen ∷ (expr_spelling a ++ mark m.OpenBracket ∷ (names_listed vars ++ mark m.CloseBracket ∷ (mark m.CloseParen ∷ set_spelling body)))) h
 item_unbraced (disable at target) i rest l b h = word_unbraced w.Disable at i rest (word w.Soft ∷ (expr_spelling target ++ mark m.Semicolon ∷ [])) h
 item_unbraced (solve at first later) i rest l b h = absurd l
 

@@ -2,10 +2,9 @@
 use Rattle.std.proofs.Common.{◌≡◌, ℕ, ◌<◌, false, List, [], ◌∷◌, ◌++◌, length, Option, Ok, Err, ◌⊎◌, inl, inr, sym, ◌∙◌, ap, subst, arith}
 use Rattle.svr_token.specs.declared.Lexeme.{Lexeme}
 use Rattle.svr_tree.specs.Tokens.{Tok}
+use Rattle.svr_reader.specs.Outcomes.{Stop, Stuck, Parser, lexeme_at}
 use Rattle.svr_reader.specs.declared.fixed.Fixed.{Fixed}
-use Rattle.svr_reader.specs.declared.fault.ReadFault.{ReadFault}
-use Rattle.svr_reader.specs.declared.fault.ReadFault.TheVariants.{NoMemory}
-use Rattle.svr_reader.specs.Program.{Program, Parser, lexeme_at, run}
+use Rattle.svr_reader.specs.Program.{Program, run}
 use Rattle.svr_reader.specs.Steps.{fixed_lexeme, is_fixed, sees}
 use Rattle.svr_reader.specs.Lists.{led}
 use Rattle.svr_reader.proofs.Steps.{led_yes, led_no, led_cases}
@@ -21,7 +20,7 @@ module _ {K : Type 0} {Ans : K → Type 0} (most r : ℕ) (sub : (k : K) → Par
   lo q = local_run most r sub ls q
 
   module _ {X : Type 0} (k : Fixed) (p q : Program K Ans X) (D C : Option Lexeme → Type 0) (Q : X → Type 0) (apart : (l : Option Lexeme) → D l → is_fixed k l ≡ false) (v : Goal most r sub ls AnyToken C Q p) (u : Goal most r sub ls D C Q q) where
-    behind : (i : List Tok) (e : ReadFault) (n : ℕ) (t : Tok) (z : List Tok) → length i < most → i ≡ t ∷ z → t.lexeme ≡ fixed_lexeme k → R p z ≡ Err e → FaultsAt e n → Completes C Q (R (led k p q)) i n
+    behind : (i : List Tok) (e : Stop) (n : ℕ) (t : Tok) (z : List Tok) → length i < most → i ≡ t ∷ z → t.lexeme ≡ fixed_lexeme k → R p z ≡ Err e → FaultsAt e n → Completes C Q (R (led k p q)) i n
     behind i e n t z lim is w g fa = let few : length z < most = omega (arith, lim, ap length is) in subst (λ y. Completes C Q (R (led k p q)) y n) (sym is)
         (behind_token most C Q (R (led k p q)) (R p) t z n (λ y. led_yes most r sub k p q t y w) (all_of most AnyToken C Q (R p) (lo p) v.alive z e n few g fa))
 
@@ -57,7 +56,7 @@ module _ {K : Type 0} {Ans : K → Type 0} (most r : ℕ) (sub : (k : K) → Par
                 good = d.good;
                 ends = λ s cl. led_no most r sub k p q (d.front ++ (d.more ++ s)) (ap (is_fixed k) (same_front most C C Q i d.front d.j (d.more ++ s) d.is (omega (arith, below, d.len))) ∙ w) ∙ d.ends s cl;
               });
-          safe = λ i lim h. led_cases most r sub k p q i (Err NoMemory) h
+          safe = λ i lim h. led_cases most r sub k p q i (Err Stuck) h
               (λ t z is w g. v.alive.later.safe z (omega (arith, lim, ap length is)) g)
               (λ w g. u.alive.later.safe i lim g);
         };

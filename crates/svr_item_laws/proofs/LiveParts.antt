@@ -8,26 +8,27 @@ use Rattle.svr_token.specs.declared.Mark.TheVariants as m
 use Rattle.svr_operator.specs.declared.Share.{Share}
 use Rattle.svr_operator.specs.declared.Share.TheVariants as share
 use Rattle.svr_tree.specs.ExprTree.{ExprTree}
+use Rattle.svr_reader.specs.Outcomes.{Parser}
 use Rattle.svr_reader.specs.declared.fixed.Fixed.{Fixed}
 use Rattle.svr_reader.specs.declared.fixed.Fixed.TheVariants as f
-use Rattle.svr_reader.specs.Program.{Program, bind, call, Parser, run}
-use Rattle.svr_reader.specs.Steps.{same_mark, expect}
-use Rattle.svr_reader.specs.Lists.{Tall, listing}
+use Rattle.svr_reader.specs.Program.{Program, bind, call, run, expect}
+use Rattle.svr_reader.specs.Steps.{same_mark}
+use Rattle.svr_reader.specs.Lists.{WithHeight, listing}
 use Rattle.svr_reader.proofs.Steps.{bind_ok}
 use Rattle.svr_reader.proofs.Local.{IsLocal, local_run}
 use Rattle.svr_reader.proofs.Live.{AnyToken, Consumes, ok_shorter}
 use Rattle.svr_reader.proofs.Goals.{Goal, Form, then_goal, then_form, pure_goal, take_form, weaken_form, wide_goal}
-use Rattle.svr_reader.proofs.Led.{AnyAnswer, expect_form, goal_expect}
+use Rattle.svr_reader.proofs.Led.{AnyAnswer, expect_form, goal_expect, a_name}
 use Rattle.svr_reader.proofs.LivePeeks.{Peeks, reads, stops, peek_goal}
 use Rattle.svr_reader.proofs.LiveLists.{listing_goal}
 use Rattle.svr_reader.proofs.Layers.{Low, Part, form_of, open_of}
-use Rattle.svr_expr.specs.ExprRules.{an_expr, a_path, a_member, links_of}
+use Rattle.svr_expr.specs.ExprRules.{an_expr, a_path, a_member, rest_of_operand}
 use Rattle.svr_expr_laws.proofs.Nodes.{NotDot, NotSelect}
-use Rattle.svr_expr_laws.proofs.LiveParts.{Closes, a_name}
-use Rattle.svr_expr_laws.proofs.Live.{live_expr, live_path, live_member, live_range, expr_open, path_open, member_open, range_open, links_open}
-use Rattle.svr_item.specs.ItemRules.{Ans, Reader, a_node, a_set_range, weight_of, weight_by, weight, dist_item, distributed, dist_by, dist, weighed, equivalent, part, item}
+use Rattle.svr_expr_laws.proofs.LiveParts.{Closes}
+use Rattle.svr_expr_laws.proofs.Live.{live_expr, live_path, live_member, live_range, expr_open, path_open, member_open, range_open, connectives_open}
+use Rattle.svr_item.specs.ItemRules.{Ans, Rule, a_node, a_set_range, weight_of, weight_by, weight, dist_item, dist_on, dist_by, dist, plain_on, equivalent_on, part, item}
 use Rattle.svr_item.specs.ItemRules as rules
-use Rattle.svr_item_laws.proofs.Growth.{local_parts}
+use Rattle.svr_item.proofs.Local.{local_parts}
 use Rattle.svr_item_laws.proofs.CompleteParts.{Spells, NotComma, NotWeight, NotDist, of_token, weight_stops, dist_stops}
 
 -- ---- programs that take a token
@@ -80,13 +81,13 @@ module _ (most r : ℕ) (some : 1 ≤ most) (roomy : r ≤ most) where
   abbrev ls : (k : rules.Part) → IsLocal (sub k)
   ls = local_parts most r
 
-  abbrev R : {X : Type 0} → Reader X → Parser X
+  abbrev R : {X : Type 0} → Rule X → Parser X
   R p = run most r sub p
 
-  abbrev G : {X : Type 0} → (D C : Option Lexeme → Type 0) → (X → Type 0) → Reader X → Type 0
+  abbrev G : {X : Type 0} → (D C : Option Lexeme → Type 0) → (X → Type 0) → Rule X → Type 0
   G D C Q q = Goal most r sub ls D C Q q
 
-  abbrev F : {X : Type 0} → (C : Option Lexeme → Type 0) → (X → Type 0) → Reader X → Type 0
+  abbrev F : {X : Type 0} → (C : Option Lexeme → Type 0) → (X → Type 0) → Rule X → Type 0
   F C Q q = Form most r sub ls C Q q
 
   pub mark_goal : {D : Option Lexeme → Type 0} (k : Mark) → D (Some (lexeme.Mark k)) → G D AnyToken AnyAnswer (expect (f.Mark k))
@@ -112,8 +113,8 @@ module _ (most r : ℕ) (some : 1 ≤ most) (roomy : r ≤ most) where
   range_form : 1 ≤ r → F Closes (Low r) (call a_set_range)
   range_form fits = form_of most r sub ls {k = a_set_range} (live_range most r fits roomy)
 
-  links_goal : (at : ℕ) (left : Tall ExprTree) → Part r left → G Closes Closes (Part r) (call (a_node (links_of at left)))
-  links_goal at left a = open_of most r sub ls {k = a_node (links_of at left)} (links_open most r at left some roomy a)
+  connectives_goal : (at : ℕ) (left : WithHeight ExprTree) → Part r left → G Closes Closes (Part r) (call (a_node (rest_of_operand at left)))
+  connectives_goal at left a = open_of most r sub ls {k = a_node (rest_of_operand at left)} (connectives_open most r at left some roomy a)
 
   -- ---- lists of paths and of members
 
@@ -154,14 +155,14 @@ module _ (most r : ℕ) (some : 1 ≤ most) (roomy : r ≤ most) where
   unfolding dist_item
   dist_item_goal fits = then_goal most r sub ls (range_goal fits tt) (λ s g. then_goal most r sub ls (wide_goal most r sub ls (weight_goal fits) (λ _ h. h.0)) (λ v g2. pure_goal most r sub ls (omega (arith, g, g2)) (λ _ h. h)))
 
-  distributed_form : 1 ≤ r → F IsEnd (Low r) distributed
-  unfolding distributed
-  distributed_form fits = take_form most r sub ls (λ at. then_goal most r sub ls (mark_goal m.OpenBrace tt) (λ _ _.
+  dist_on_form : 1 ≤ r → F IsEnd (Low r) dist_on
+  unfolding dist_on
+  dist_on_form fits = take_form most r sub ls (λ at. then_goal most r sub ls (mark_goal m.OpenBrace tt) (λ _ _.
       then_goal most r sub ls (listing_goal most r sub ls some r Parts IsBrace (of_token Parts (lexeme.Mark m.CloseBrace) parts_brace.0) (of_token NotComma (lexeme.Mark m.CloseBrace) parts_brace.1) dist_item (dist_item_form fits) (dist_item_goal fits).alive.fin) (λ ds g.
       then_goal most r sub ls (mark_goal m.CloseBrace refl) (λ _ _. pure_goal most r sub ls g (λ _ _. tt)))))
 
   dist_branch : 1 ≤ r → (q : Option Lexeme) → Peeks most r sub ls IsEnd (Low r) (None, 0) (dist_by q)
-  dist_branch fits (Some (lexeme.Word w.Dist)) = reads (distributed_form fits)
+  dist_branch fits (Some (lexeme.Word w.Dist)) = reads (dist_on_form fits)
   dist_branch fits _ = stops (λ i. refl)
 
   dist_goal : 1 ≤ r → G IsEnd IsEnd (Low r) dist
@@ -170,18 +171,18 @@ module _ (most r : ℕ) (some : 1 ≤ most) (roomy : r ≤ most) where
 
   -- ---- what stands behind the expression of an item
 
-  pub weighed_goal : (at : ℕ) (soft : Bool) (e : Tall ExprTree) → Part r e → G IsEnd AnyToken (Part (suc r)) (weighed at soft e)
-  unfolding weighed
-  weighed_goal at soft e a = then_goal most r sub ls (dist_goal (omega (arith, a.0, a.1))) (λ d g. then_goal most r sub ls (mark_goal m.Semicolon refl) (λ _ _. pure_goal most r sub ls (omega arith, omega (arith, a.1, g)) (λ _ _. tt)))
+  pub plain_on_goal : (at : ℕ) (soft : Bool) (e : WithHeight ExprTree) → Part r e → G IsEnd AnyToken (Part (suc r)) (plain_on at soft e)
+  unfolding plain_on
+  plain_on_goal at soft e a = then_goal most r sub ls (dist_goal (omega (arith, a.0, a.1))) (λ d g. then_goal most r sub ls (mark_goal m.Semicolon refl) (λ _ _. pure_goal most r sub ls (omega arith, omega (arith, a.1, g)) (λ _ _. tt)))
 
-  pub weighed_form : (at : ℕ) (soft : Bool) (e : Tall ExprTree) → Part r e → F AnyToken (Part (suc r)) (weighed at soft e)
-  unfolding weighed
-  weighed_form at soft e a = form_by most r sub ls (weighed_goal at soft e a) (then_takes most r sub ls (λ d. expect_takes most r sub ls (f.Mark m.Semicolon)))
+  pub plain_on_form : (at : ℕ) (soft : Bool) (e : WithHeight ExprTree) → Part r e → F AnyToken (Part (suc r)) (plain_on at soft e)
+  unfolding plain_on
+  plain_on_form at soft e a = form_by most r sub ls (plain_on_goal at soft e a) (then_takes most r sub ls (λ d. expect_takes most r sub ls (f.Mark m.Semicolon)))
 
-  equivalent_goal : (at : ℕ) (left : Tall ExprTree) → Part r left → G Closes AnyToken (Part (suc r)) (equivalent at left)
-  unfolding equivalent
-  equivalent_goal at left a = then_goal most r sub ls (links_goal at left a) (λ whole g. then_goal most r sub ls (mark_goal m.Semicolon refl) (λ _ _. pure_goal most r sub ls (omega arith, omega (arith, g.1)) (λ _ _. tt)))
+  equivalent_on_goal : (at : ℕ) (left : WithHeight ExprTree) → Part r left → G Closes AnyToken (Part (suc r)) (equivalent_on at left)
+  unfolding equivalent_on
+  equivalent_on_goal at left a = then_goal most r sub ls (connectives_goal at left a) (λ whole g. then_goal most r sub ls (mark_goal m.Semicolon refl) (λ _ _. pure_goal most r sub ls (omega arith, omega (arith, g.1)) (λ _ _. tt)))
 
-  pub equivalent_form : (at : ℕ) (left : Tall ExprTree) → Part r left → F AnyToken (Part (suc r)) (equivalent at left)
-  unfolding equivalent
-  equivalent_form at left a = form_by most r sub ls (equivalent_goal at left a) (then_takes most r sub ls (λ whole. expect_takes most r sub ls (f.Mark m.Semicolon)))
+  pub equivalent_on_form : (at : ℕ) (left : WithHeight ExprTree) → Part r left → F AnyToken (Part (suc r)) (equivalent_on at left)
+  unfolding equivalent_on
+  equivalent_on_form at left a = form_by most r sub ls (equivalent_on_goal at left a) (then_takes most r sub ls (λ whole. expect_takes most r sub ls (f.Mark m.Semicolon)))

@@ -4,7 +4,8 @@ use Rattle.svr_token.specs.declared.Lexeme.{Lexeme}
 use Rattle.svr_token.specs.declared.Lexeme.TheVariants as lexeme
 use Rattle.svr_token.specs.declared.Mark.TheVariants as m
 use Rattle.svr_tree.specs.ItemTree.{no_else}
-use Rattle.svr_reader.specs.Program.{call, Parser, run}
+use Rattle.svr_reader.specs.Outcomes.{Parser}
+use Rattle.svr_reader.specs.Program.{call, run}
 use Rattle.svr_reader.proofs.Steps.{led_yes}
 use Rattle.svr_reader.proofs.Local.{IsLocal}
 use Rattle.svr_reader.proofs.Live.{AnyToken}
@@ -12,9 +13,9 @@ use Rattle.svr_reader.proofs.Goals.{Goal, Form, then_goal, then_form, goal_of, p
 use Rattle.svr_reader.proofs.Led.{tok, led_form, opt_goal}
 use Rattle.svr_reader.proofs.Layers.{Low}
 use Rattle.svr_item.specs.ItemRules as rules
-use Rattle.svr_item.specs.ItemRules.{Ans, Reader, an_item, items, braced_set, single_set, item_set, else_branch, otherwise, part, item}
+use Rattle.svr_item.specs.ItemRules.{Ans, Rule, an_item, items, braced_set, single_set, item_set, else_branch, otherwise, part, item}
 use Rattle.svr_item_laws.proofs.Trees.{NotElse, open_brace, close_brace, else_word}
-use Rattle.svr_item_laws.proofs.Growth.{local_parts}
+use Rattle.svr_item.proofs.Local.{local_parts}
 use Rattle.svr_item_laws.proofs.LiveTakes.{until_any_goal}
 
 module _ (most r : ℕ) (some : 1 ≤ most) (each : Form most r (part most r (item most r)) (local_parts most r) NotElse (Low r) (call an_item)) where
@@ -24,13 +25,13 @@ module _ (most r : ℕ) (some : 1 ≤ most) (each : Form most r (part most r (it
   abbrev ls : (k : rules.Part) → IsLocal (sub k)
   ls = local_parts most r
 
-  abbrev R : {X : Type 0} → Reader X → Parser X
+  abbrev R : {X : Type 0} → Rule X → Parser X
   R p = run most r sub p
 
-  abbrev G : {X : Type 0} → (D C : Option Lexeme → Type 0) → (X → Type 0) → Reader X → Type 0
+  abbrev G : {X : Type 0} → (D C : Option Lexeme → Type 0) → (X → Type 0) → Rule X → Type 0
   G D C Q q = Goal most r sub ls D C Q q
 
-  abbrev F : {X : Type 0} → (C : Option Lexeme → Type 0) → (X → Type 0) → Reader X → Type 0
+  abbrev F : {X : Type 0} → (C : Option Lexeme → Type 0) → (X → Type 0) → Rule X → Type 0
   F C Q q = Form most r sub ls C Q q
 
   pub items_goal : {D : Option Lexeme → Type 0} → D (Some (lexeme.Mark m.CloseBrace)) → G D AnyToken (Low r) items

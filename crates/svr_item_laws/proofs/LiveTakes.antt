@@ -2,12 +2,11 @@
 use Rattle.std.proofs.Common.{◌≡◌, ℕ, zero, suc, ◌<◌, ◌≤◌, List, [], ◌∷◌, ◌++◌, length, Option, Some, Ok, Err, inl, refl, sym, ◌∙◌, ap, subst, arith}
 use Rattle.svr_token.specs.declared.Lexeme.{Lexeme}
 use Rattle.svr_tree.specs.Tokens.{Tok}
+use Rattle.svr_reader.specs.Outcomes.{Stop, Stuck, Turn, go, done, Outcome, Parser, lexeme_at, turned, turns}
 use Rattle.svr_reader.specs.declared.fixed.Fixed.{Fixed}
-use Rattle.svr_reader.specs.declared.fault.ReadFault.{ReadFault}
-use Rattle.svr_reader.specs.declared.fault.ReadFault.TheVariants.{NoMemory}
-use Rattle.svr_reader.specs.Program.{Turn, go, done, Program, pure, bind, loop, Outcome, Parser, lexeme_at, turned, turns, run}
+use Rattle.svr_reader.specs.Program.{Program, pure, bind, loop, run}
 use Rattle.svr_reader.specs.Steps.{fixed_lexeme, is_fixed}
-use Rattle.svr_reader.specs.Lists.{Tall, with_last, until_step, until}
+use Rattle.svr_reader.specs.Lists.{WithHeight, with_last, until_step, until}
 use Rattle.svr_reader.proofs.Steps.{bind_ok, bind_is, turn_ok, led_yes, led_no, led_cases}
 use Rattle.svr_reader.proofs.Local.{IsLocal, local_run, local_turns}
 use Rattle.svr_reader.proofs.Live.{AnyToken, FaultsAt, Completes, Later, Finishes, Alive, Settled, Settles, bind_err, split, ok_stays, fault_within, later_in, later_at, later_behind, settled_behind, same_front}
@@ -58,11 +57,11 @@ module _ {S A : Type 0} (most : ℕ) (E C : Option Lexeme → Type 0) (Q : A →
     turned_local n (go s) = local_turns n step t.local s
     turned_local n (done a) = record { at = λ i. record { front = []; is = refl; stays = λ k h. refl } }
 
-    turn_err : {G : Type 0} (n : ℕ) (v : Turn S A) (j : List Tok) (e : ReadFault) → turned (turns n step) v j ≡ Err e → ((s2 : S) → v ≡ go s2 → turns n step s2 j ≡ Err e → G) → G
+    turn_err : {G : Type 0} (n : ℕ) (v : Turn S A) (j : List Tok) (e : Stop) → turned (turns n step) v j ≡ Err e → ((s2 : S) → v ≡ go s2 → turns n step s2 j ≡ Err e → G) → G
     turn_err n (go s) j e h g = g s refl h
     turn_err n (done a) j e h g = absurd (cc)
 
-    later_turns : (n : ℕ) (s : S) → Inv s → (i : List Tok) (e : ReadFault) (k : ℕ) → length i < suc n → length i < most → turns (suc n) step s i ≡ Err e → FaultsAt e k → k < length i → Completes C Q (turns (suc n) step s) i k
+    later_turns : (n : ℕ) (s : S) → Inv s → (i : List Tok) (e : Stop) (k : ℕ) → length i < suc n → length i < most → turns (suc n) step s i ≡ Err e → FaultsAt e k → k < length i → Completes C Q (turns (suc n) step s) i k
     later_turns zero s inv i e k few lim h fa behind = absurd (omega arith)
     later_turns (suc n) s inv i e k few lim h fa behind = bind_err (step s i) (turned (turns (suc n) step)) e h
         (λ fails. let d = (t.later s inv).later i e k lim fails fa behind in
@@ -76,13 +75,13 @@ module _ {S A : Type 0} (most : ℕ) (E C : Option Lexeme → Type 0) (Q : A →
         (later_turns n s2 u.inv j e k (omega (arith, few, u.less)) (omega (arith, lim, u.less)) g2 fa lt))
         (λ le. later_at most E E C AnyAnswer Q (step s) (turned (turns (suc n) step)) (t.local s) (turned_local (suc n)) i k (go s2) j u.settled (omega (arith, le, inside)) (fin_turns n s2 u.inv))))
 
-    safe_turns : (n : ℕ) (s : S) → Inv s → (i : List Tok) → length i < suc n → length i < most → turns (suc n) step s i ≡ Err NoMemory → ⊥
-    safe_turns zero s inv i few lim h = bind_err (step s i) (turned (turns zero step)) NoMemory h
+    safe_turns : (n : ℕ) (s : S) → Inv s → (i : List Tok) → length i < suc n → length i < most → turns (suc n) step s i ≡ Err Stuck → ⊥
+    safe_turns zero s inv i few lim h = bind_err (step s i) (turned (turns zero step)) Stuck h
         (λ fails. (t.later s inv).safe i lim fails)
-        (λ v j is g. turn_err zero v j NoMemory g (λ s2 e2 g2. let u = t.goes s i s2 j inv lim (is ∙ ap (λ z. Ok (z, j)) e2) in omega (arith, few, u.less)))
-    safe_turns (suc n) s inv i few lim h = bind_err (step s i) (turned (turns (suc n) step)) NoMemory h
+        (λ v j is g. turn_err zero v j Stuck g (λ s2 e2 g2. let u = t.goes s i s2 j inv lim (is ∙ ap (λ z. Ok (z, j)) e2) in omega (arith, few, u.less)))
+    safe_turns (suc n) s inv i few lim h = bind_err (step s i) (turned (turns (suc n) step)) Stuck h
         (λ fails. (t.later s inv).safe i lim fails)
-        (λ v j is g. turn_err (suc n) v j NoMemory g (λ s2 e2 g2. let u = t.goes s i s2 j inv lim (is ∙ ap (λ z. Ok (z, j)) e2) in
+        (λ v j is g. turn_err (suc n) v j Stuck g (λ s2 e2 g2. let u = t.goes s i s2 j inv lim (is ∙ ap (λ z. Ok (z, j)) e2) in
         safe_turns n s2 u.inv j (omega (arith, few, u.less)) (omega (arith, lim, u.less)) g2))
 
     -- the loop takes a token, since its last turn does
@@ -127,12 +126,12 @@ module _ {S A : Type 0} (most : ℕ) (E C : Option Lexeme → Type 0) (Q : A →
 -- ---- { x } and the word or mark k that ends them
 
 module _ {K : Type 0} {Ans : K → Type 0} (most r : ℕ) (sub : (k : K) → Parser (Ans k)) (ls : (k : K) → IsLocal (sub k)) (some : 1 ≤ most)
-    {X : Type 0} (b : ℕ) (D : Option Lexeme → Type 0) (k : Fixed) (dk : D (Some (fixed_lexeme k))) (p : Program K Ans (Tall X)) (v : Form most r sub ls D (Low b) p) where
+    {X : Type 0} (b : ℕ) (D : Option Lexeme → Type 0) (k : Fixed) (dk : D (Some (fixed_lexeme k))) (p : Program K Ans (WithHeight X)) (v : Form most r sub ls D (Low b) p) where
   abbrev R : {A : Type 0} → Program K Ans A → Parser A
   R q = run most r sub q
 
   abbrev Lists : Type 0
-  Lists = Tall (List X)
+  Lists = WithHeight (List X)
 
   abbrev step : Lists → Parser (Turn Lists Lists)
   step s = R (until_step k p s)
@@ -185,7 +184,7 @@ module _ {K : Type 0} {Ans : K → Type 0} (most r : ℕ) (sub : (k : K) → Par
           good = d.good;
           ends = λ z cl. led_no most r sub k (last s) (one_more s) (d.front ++ (d.more ++ z)) (ap (is_fixed k) (same_front most D D (Low {X = X} b) i d.front d.j (d.more ++ z) d.is (omega (arith, behind, d.len))) ∙ w) ∙ d.ends z cl;
         });
-    safe = λ i lim h. led_cases most r sub k (last s) (one_more s) i (Err NoMemory) h (λ t z is w g. absurd (cc)) (λ w g. (element_form s inv).later.safe i lim g);
+    safe = λ i lim h. led_cases most r sub k (last s) (one_more s) i (Err Stuck) h (λ t z is w g. absurd (cc)) (λ w g. (element_form s inv).later.safe i lim g);
   }
 
   step_goes : (s : Lists) (i : List Tok) (s2 : Lists) (j : List Tok) → Low b s → length i < most → step s i ≡ Ok (go s2, j) → Onward most Closing AnyToken (Low b) step (Low b) i s s2 j

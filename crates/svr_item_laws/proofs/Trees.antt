@@ -12,17 +12,17 @@ use Rattle.svr_tree.specs.Tokens as tokens
 use Rattle.svr_tree.specs.Tokens.{Tok, Entry, FitEach, mark, word, Each, OneOrMore}
 use Rattle.svr_tree.specs.Operators.{unary_mark, binary_mark}
 use Rattle.svr_tree.specs.DeclGrammar.{greatest}
-use Rattle.svr_tree.specs.ExprTree.{ExprTree, number, path, bit_select, part_select, unary, binary, choice, inside, join, copies, sign, paren, exprs_of}
-use Rattle.svr_tree.specs.ExprGrammar.{names_spelling, parens_spelling, expr_spelling, exprs_spelling, range_spelling, ranges_spelling, range_height, is_selectable, is_braced, IsPathAt, IsExpr}
+use Rattle.svr_tree.specs.ExprTree.{ExprTree, number, path, bit_select, part_select, unary, binary, choice, inside, join, copies, sign, paren, reduce, exprs_of}
+use Rattle.svr_tree.specs.ExprGrammar.{names_spelling, parens_spelling, expr_spelling, exprs_spelling, range_spelling, ranges_spelling, range_height, is_path, is_selectable, is_braced, IsPathAt, IsExpr}
 use Rattle.svr_tree.specs.ItemTree.{DistItemTree, ItemTree, plain, unique, implies, branch, foreach, disable, solve, ItemTrees, no_items, more_items, items_of}
 use Rattle.svr_tree.specs.ItemGrammar.{weight_spelling, dist_item_spelling, item_spelling, items_spelling, IsDistItem, IsPath, IsMember, EachIsPath, ArePaths, EachIsMember, AreMembers, IsItem, AreItems, IsBlockItem, AreBlockItems, weight_height, dist_items_height, item_height, items_height}
+use Rattle.svr_reader.specs.Outcomes.{lexeme_at}
 use Rattle.svr_reader.specs.declared.fixed.Fixed.{Fixed}
 use Rattle.svr_reader.specs.declared.fixed.Fixed.TheVariants as f
-use Rattle.svr_reader.specs.Program.{lexeme_at}
 use Rattle.svr_reader.specs.Steps.{same_mark, is_fixed, sees}
 use Rattle.svr_reader.proofs.Steps.{takes_parts, lexeme_on, fixed_self}
-use Rattle.svr_expr.specs.ExprRules.{starts_path}
-use Rattle.svr_expr_laws.proofs.Trees.{expr_long, range_long}
+use Rattle.svr_expr.specs.ExprRules.{path_starts}
+use Rattle.svr_expr_laws.proofs.Trees.{reduce_rest, expr_long, range_long}
 
 abbrev pub open_brace : Fixed
 open_brace = f.Mark m.OpenBrace
@@ -51,7 +51,7 @@ pub items_list_is : (xs : ItemTrees) → items_of (list_of_items xs) ≡ xs
 items_list_is no_items = refl
 items_list_is (more_items x xs) = ap (more_items x) (items_list_is xs)
 
-pub items_spelling_is : (xs : List ItemTree) → items_spelling (items_of xs) ≡ tokens.run item_spelling xs
+pub items_spelling_is : (xs : List ItemTree) → items_spelling (items_of xs) ≡ tokens.each_spelling item_spelling xs
 items_spelling_is [] = refl
 items_spelling_is (x ∷ xs) = ap (λ es. item_spelling x ++ es) (items_spelling_is xs)
 
@@ -134,13 +134,13 @@ item_pos (plain at soft e d) = omega arith
 item_pos (unique at members) = omega arith
 item_pos (implies at t body) = omega arith
 item_pos (branch at t met unmet) = omega arith
-item_pos (foreach at a v body) = omega arith
+item_pos (foreach at a vars body) = omega arith
 item_pos (disable at target) = omega arith
 item_pos (solve at first later) = omega arith
 
 -- ---- what an expression begins with
 
-path_plain : (q : Option Lexeme) → starts_path q ≡ true → is_fixed open_brace q ≡ false
+path_plain : (q : Option Lexeme) → path_starts q ≡ true → is_fixed open_brace q ≡ false
 path_plain (Some (lexeme.Name k)) h = refl
 path_plain (Some (lexeme.Word k)) h = refl
 path_plain _ h = absurd (cc)
@@ -172,6 +172,10 @@ plain_select (bit_select at base index false) h = refl
 plain_select (part_select at base first last false) h = refl
 plain_select _ h = absurd (cc)
 
+plain_path : (t : ExprTree) → is_path t ≡ true → is_braced t ≡ false
+plain_path (path at s names false) h = refl
+plain_path _ h = absurd (cc)
+
 -- one that does not begin with `{`
 pub unbraced : (t : ExprTree) (i rest : List Tok) → IsExpr t → is_braced t ≡ false → FitEach i (expr_spelling t) rest → sees open_brace i ≡ false
 unfolding same_mark
@@ -179,6 +183,7 @@ unbraced (number at v width signed) i rest l b h = ap (is_fixed open_brace) (lex
 unbraced (path at s names call) i rest l b h = path_unbraced at s names call i rest l h
 unbraced (bit_select at base index call) i rest l b h = let p = takes_parts i (expr_spelling base) (mark m.OpenBracket ∷ (expr_spelling index ++ mark m.CloseBracket ∷ parens_spelling call)) rest h in unbraced base i p.0 l.1 (plain_select base l.3) p.1
 unbraced (part_select at base first last call) i rest l b h = let p = takes_parts i (expr_spelling base) (mark m.OpenBracket ∷ (expr_spelling first ++ mark m.Colon ∷ (expr_spelling last ++ mark m.CloseBracket ∷ parens_spelling call))) rest h in unbraced base i p.0 l.1 (plain_select base l.4) p.1
+unbraced (reduce at array op item body) i rest l b h = let p = takes_parts i (expr_spelling array) (reduce_rest op item body) rest h in unbraced array i p.0 l.1 (plain_path array l.2) p.1
 unbraced (unary at op e) i rest l b h = ap (is_fixed open_brace) (lexeme_on i rest at (lexeme.Mark (unary_mark op)) (expr_spelling e) h) ∙ operator_plain op
 unbraced (binary at op a z) i rest l b h = let p = takes_parts i (expr_spelling a) (mark (binary_mark op) ∷ expr_spelling z) rest h in unbraced a i p.0 l.1 b p.1
 unbraced (choice at a y z) i rest l b h = let p = takes_parts i (expr_spelling a) (mark m.Question ∷ (expr_spelling y ++ mark m.Colon ∷ expr_spelling z)) rest h in unbraced a i p.0 l.1 b p.1

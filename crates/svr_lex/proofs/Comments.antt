@@ -5,7 +5,7 @@ use Rattle.svr_token.specs.Gaps.{BeginsWithGap}
 use Rattle.svr_token.specs.Faults.{BeginsNothing, IsOpenComment, IsSound, HasLowestFault, Fault, HasFault, number_of_fault, open_comment, bad_byte, bad_literal, literal_too_wide}
 use Rattle.svr_token.specs.declared.token.Kind.TheVariants as k
 use Rattle.svr_token.specs.declared.lexeme.Mark.TheVariants as m
-use Rattle.svr_lex.specs.Fronts.{EndsComment}
+use Rattle.svr_lex.specs.TextFronts.{EndsComment}
 use Rattle.svr_lex.proofs.Firsts.{no_literal_at, sound_without_literal, unknown_byte, no_bad_byte}
 
 -- a pair of bytes behind a front

@@ -8,7 +8,7 @@ use Rattle.svr_token.specs.Faults.{IsSound, HasLowestFault, bad_byte}
 use Rattle.svr_token.specs.Literals.{HasLiteral}
 use Rattle.svr_token.specs.Tokens.{BeginsWithLexeme}
 use Rattle.svr_token.specs.declared.token.Kind.TheVariants as k
-use Rattle.svr_lex.specs.Fronts.{EndsComment, StartsOther}
+use Rattle.svr_lex.specs.TextFronts.{EndsComment, StartsOther}
 use Rattle.svr_lex.proofs.Comments.{line_gap, block_gap}
 use Rattle.svr_lex.proofs.Lexemes.{system_front, unknown_front, literal_front}
 

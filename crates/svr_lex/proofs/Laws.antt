@@ -19,7 +19,7 @@ use Rattle.svr_token.proofs.Fixed.{starts_literal, mark_listed, system_no_mark}
 use Rattle.svr_token.proofs.Exact.{name_no_mark, name_no_system, name_not_literal, mark_not_literal, system_not_literal, literal_starts}
 use Rattle.svr_token.proofs.Heads.{head_shape}
 use Rattle.svr_lex.proofs.Marks.{mark_sizes}
-use Rattle.svr_lex.specs.Lexing.{fault_at, IsFaultOf}
+use Rattle.svr_lex.specs.Lexing.{fault_at, IsLexicalFaultOf}
 use Rattle.svr_lex.specs.declared.fault.LexFault.{LexFault}
 use Rattle.svr_lex.specs.declared.fault.LexFault.TheVariants as e
 
@@ -329,7 +329,7 @@ whole_tokens text left tokens at front e none =
 pub first_fault : (text left : List ℕ) (tokens : List Token) (at : ℕ) (fault : Fault) → Tokenizes 0 text tokens at left → HasLowestFault fault left → IsFirstFault text fault at
 first_fault text left tokens at fault front here = record { tokens = tokens; rest = left; front = front; here = here }
 
-pub fault_answer : (text : List ℕ) (fault : Fault) (at : ℕ) → IsFirstFault text fault at → IsFaultOf text (fault_at fault at)
+pub fault_answer : (text : List ℕ) (fault : Fault) (at : ℕ) → IsFirstFault text fault at → IsLexicalFaultOf text (fault_at fault at)
 fault_answer text bad_byte at f = f
 fault_answer text open_comment at f = f
 fault_answer text bad_literal at f = f

@@ -20,7 +20,7 @@ use Rattle.svr_token.specs.declared.lexeme.SystemName.TheVariants as s
 use Rattle.svr_token.proofs.Splitting.{split_one, split_most, and_right}
 use Rattle.svr_token.proofs.Fixed.{starts_literal}
 use Rattle.svr_token.proofs.Exact.{literal_one, literal_starts}
-use Rattle.svr_lex.specs.Fronts.{StartsOther, MarkOrNothing, BeginsWithMark}
+use Rattle.svr_lex.specs.TextFronts.{StartsOther, MarkOrNothing, BeginsWithMark}
 use Rattle.svr_lex.proofs.Marks.{mark_sizes, mark_not_digit, mark_not_start, quote_mark_short, dollar_mark_short, first_byte_mark}
 use Rattle.svr_lex.proofs.Firsts.{may_start_literal, literal_byte, no_literal_at, unknown_byte, comment_byte, gap_byte, name_byte, system_byte, sound_from, no_bad_byte, sound_without_literal, or_cases, quote_is, may_start_begins, head_byte}
 

@@ -15,12 +15,12 @@ fault_at bad_literal place = e.BadLiteral place
 fault_at literal_too_wide place = e.LiteralTooWide place
 
 -- the text is tokenized up to the place of the fault, where it stands and none of a lower number
-abbrev pub IsFaultOf : List ℕ → LexFault → Type 0
-IsFaultOf text (e.BadByte at) = IsFirstFault text bad_byte at
-IsFaultOf text (e.OpenComment at) = IsFirstFault text open_comment at
-IsFaultOf text (e.BadLiteral at) = IsFirstFault text bad_literal at
-IsFaultOf text (e.LiteralTooWide at) = IsFirstFault text literal_too_wide at
-IsFaultOf text e.NoMemory = Unit {0}
+abbrev pub IsLexicalFaultOf : List ℕ → LexFault → Type 0
+IsLexicalFaultOf text (e.BadByte at) = IsFirstFault text bad_byte at
+IsLexicalFaultOf text (e.OpenComment at) = IsFirstFault text open_comment at
+IsLexicalFaultOf text (e.BadLiteral at) = IsFirstFault text bad_literal at
+IsLexicalFaultOf text (e.LiteralTooWide at) = IsFirstFault text literal_too_wide at
+IsLexicalFaultOf text e.NoMemory = Unit {0}
 
 abbrev pub fault_of : Flaw → Fault
 fault_of f.BadByte = bad_byte

@@ -1,2 +1,2 @@
 pub mod Lexing
-pub mod Fronts
+pub mod TextFronts

@@ -4,7 +4,7 @@ ghost use Rattle.svr_token.specs.Bytes.{is_name_byte, is_name_start, Stops};
 ghost use Rattle.svr_token.specs.Literals.{HasLiteral, literal_seen};
 ghost use Rattle.svr_token.specs.Spellings.{mark_text};
 ghost use Rattle.svr_token.specs.declared.lexeme.Mark.{Mark};
-ghost use Rattle.svr_lex.specs.Fronts.{IsFront, StartsOther, MarkOrNothing, HasMark, BeginsWithMark, EndsComment};
+ghost use Rattle.svr_lex.specs.TextFronts.{IsTextFront, StartsOther, MarkOrNothing, HasMark, BeginsWithMark, EndsComment};
 
 use crate::fault::Flaw;
 use svr_token::{
@@ -30,7 +30,7 @@ pub(crate) enum Front<'a> {
 }
 
 pub(crate) fn front_of(text: &[u8]) -> Front<'_>
-    ensures { IsFront text.now result }
+    ensures { IsTextFront text.now result }
 {
     let Some((first, more)) = text.split_first() else {
         return Front::End;
@@ -57,7 +57,7 @@ pub(crate) fn front_of(text: &[u8]) -> Front<'_>
 // A comment, or a mark.
 fn slash<'a>(text: &'a [u8], more: &'a [u8]) -> Front<'a>
     requires { text.now ≡ 47 ∷ more.now }
-    ensures { IsFront text.now result }
+    ensures { IsTextFront text.now result }
 {
     if let Some(behind) = more.strip_prefix(b"/") {
         let (body, _) = split_while(behind, ByteClass::WithinLine);
@@ -79,7 +79,7 @@ fn slash<'a>(text: &'a [u8], more: &'a [u8]) -> Front<'a>
 // A system name, or the mark `$`.
 fn dollar<'a>(text: &'a [u8], more: &'a [u8]) -> Front<'a>
     requires { text.now ≡ 36 ∷ more.now }
-    ensures { IsFront text.now result }
+    ensures { IsTextFront text.now result }
 {
     if !starts_name(more) {
         return mark(text);
@@ -100,7 +100,7 @@ fn dollar<'a>(text: &'a [u8], more: &'a [u8]) -> Front<'a>
 // A literal, or a mark.
 fn literal_or_mark(text: &[u8]) -> Front<'_>
     requires { StartsOther text.now }
-    ensures { IsFront text.now result }
+    ensures { IsTextFront text.now result }
 {
     match front_literal(text) {
         FrontLiteral::Absent => mark(text),
@@ -112,7 +112,7 @@ fn literal_or_mark(text: &[u8]) -> Front<'_>
 fn literal_within<'a>(text: &'a [u8], literal: Literal<'a>, rest: &'a [u8]) -> Front<'a>
     requires starts { StartsOther text.now }
     requires begins { HasLiteral text.now (literal_seen literal) rest.now }
-    ensures { IsFront text.now result }
+    ensures { IsTextFront text.now result }
 {
     if runs_on(rest) {
         return Front::Fault(Flaw::BadLiteral);
@@ -170,7 +170,7 @@ fn comment_body(text: &[u8]) -> Option<&[u8]>
 // The longest mark, or a byte that begins nothing.
 fn mark(text: &[u8]) -> Front<'_>
     requires { MarkOrNothing text.now }
-    ensures { IsFront text.now result }
+    ensures { IsTextFront text.now result }
 {
     match front_mark(text) {
         Some((lexeme, rest)) => Front::Lexeme {

@@ -7,6 +7,3 @@ mod lexer;
 
 pub use fault::LexFault;
 pub use lexer::lex;
-
-#[cfg(test)]
-mod tests;

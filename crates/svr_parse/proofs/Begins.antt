@@ -13,7 +13,7 @@ use Rattle.svr_tree.specs.declared.decl.AtomKind.TheVariants as atom_kind
 use Rattle.svr_tree.specs.Tokens.{Tok, Entry, Name, FitEach, mark, listed, followed, OneOrMore}
 use Rattle.svr_tree.specs.DeclTree.{DataTypeTree, integer, named, vector, atom, VarDeclaratorTree, VarTree}
 use Rattle.svr_tree.specs.DeclGrammar.{vector_word, atom_word, integer_spelling, type_spelling, var_declarator_spelling, var_init_spelling, var_spelling, IsVarDeclarator, IsVar}
-use Rattle.svr_reader.specs.Program.{lexeme_at}
+use Rattle.svr_reader.specs.Outcomes.{lexeme_at}
 use Rattle.svr_reader.specs.Steps.{is_fixed, same_word}
 use Rattle.svr_reader.specs.declared.fixed.Fixed.TheVariants as f
 use Rattle.svr_decl.specs.DeclRules.{starts_type, starts_var}
@@ -59,7 +59,7 @@ var_begins i rest v is h = by v.kind refl v.vars refl
       where
         names_first : (i2 : List Tok) → FitEach i2 (Name n ∷ ((var_declarator_spelling d ++ followed var_declarator_spelling ds) ++ mark m.Semicolon ∷ [])) rest → VarBegins i2 v
         names_first [] h2 = absurd h2
-        names_first (u ∷ i2) h2 = let b = name_first i2 rest d.name ((var_init_spelling d.first ++ followed var_declarator_spelling ds) ++ mark m.Semicolon ∷ []) h2.1 in
+        names_first (u ∷ i2) h2 = let b = name_first i2 rest d.name ((var_init_spelling d.init ++ followed var_declarator_spelling ds) ++ mark m.Semicolon ∷ []) h2.1 in
             by_name u h2.0.1.kind b.0 i2 refl h2.0.1.is b.1 (e ∙ ap named (sym h2.0.0))
 
 pub var_fills : (v : VarTree) → IsVar v → 1 ≤ length (var_spelling v)

@@ -14,19 +14,19 @@ use Rattle.svr_tree.specs.StmtTree.{StmtTree, empty, block, repeat, assign, call
 use Rattle.svr_tree.specs.ExprGrammar.{expr_spelling, names_spelling, IsExpr, is_path, is_member}
 use Rattle.svr_tree.specs.ItemGrammar.{IsPath}
 use Rattle.svr_tree.specs.StmtGrammar.{method, args_spelling, with_spelling, mode_name, stmt_spelling, IsStmt}
-use Rattle.svr_reader.specs.Program.{lexeme_at}
-use Rattle.svr_expr.specs.ExprRules.{starts_path}
+use Rattle.svr_reader.specs.Outcomes.{lexeme_at}
+use Rattle.svr_expr.specs.ExprRules.{path_starts}
 use Rattle.svr_stmt.specs.StmtRules.{stmt_starts}
 use Rattle.svr_parse.proofs.CompleteUnit.{goes_behind}
 
 -- how a path begins, with indices or without, and the entries es behind it
 pub record PathBegins (i : List Tok) (es : List Entry) (rest : List Tok) : Type 0 where
-  pub first : starts_path (lexeme_at i) ≡ true
+  pub first : path_starts (lexeme_at i) ≡ true
   pub second : (t : Tok) (j : List Tok) (k : NameKind) → i ≡ t ∷ j → t.lexeme ≡ lexeme.Name k → (FitEach j es rest → goes_behind (lexeme_at j) ≡ true) → goes_behind (lexeme_at j) ≡ true
 
-word_begins : (i rest : List Tok) (es : List Entry) (l : Lexeme) → lexeme_at i ≡ Some l → starts_path (Some l) ≡ true → ((k : NameKind) → l ≡ lexeme.Name k → ⊥) → PathBegins i es rest
+word_begins : (i rest : List Tok) (es : List Entry) (l : Lexeme) → lexeme_at i ≡ Some l → path_starts (Some l) ≡ true → ((k : NameKind) → l ≡ lexeme.Name k → ⊥) → PathBegins i es rest
 word_begins i rest es l h s apart = record {
-  first = ap starts_path h ∙ s;
+  first = ap path_starts h ∙ s;
   second = λ t j k e n f. absurd (apart k (let a : Some l ≡ Some t.lexeme = sym h ∙ ap lexeme_at e in cc));
 }
 
@@ -41,12 +41,12 @@ behind_bracket (t ∷ i) rest es h = ap (λ q. goes_behind (Some q)) h.0
 names_begin : (n : ℕ) (ns : List ℕ) (i rest : List Tok) (es : List Entry) → FitEach i ((names_spelling (n ∷ ns) ++ []) ++ es) rest → PathBegins i es rest
 names_begin n ns [] rest es h = absurd h
 names_begin n [] (t ∷ i) rest es h = record {
-  first = ap (λ q. starts_path (Some q)) h.0.1.is;
+  first = ap (λ q. path_starts (Some q)) h.0.1.is;
   second = λ u j k e l f. let same : i ≡ j = cc in f (subst (λ z. FitEach z es rest) same h.1);
 }
 names_begin n (o ∷ ns) (t ∷ []) rest es h = absurd h.1
 names_begin n (o ∷ ns) (t ∷ (v ∷ i)) rest es h = record {
-  first = ap (λ q. starts_path (Some q)) h.0.1.is;
+  first = ap (λ q. path_starts (Some q)) h.0.1.is;
   second = λ u j k e l f. let same : v ∷ i ≡ j = cc in ap (λ z. goes_behind (lexeme_at z)) (sym same) ∙ ap (λ q. goes_behind (Some q)) h.1.0;
 }
 
@@ -72,14 +72,14 @@ record StmtBegins (i : List Tok) : Type 0 where
   first : stmt_starts (lexeme_at i) ≡ true
   second : (t : Tok) (j : List Tok) (k : NameKind) → i ≡ t ∷ j → t.lexeme ≡ lexeme.Name k → goes_behind (lexeme_at j) ≡ true
 
-path_starts : (q : Option Lexeme) → starts_path q ≡ true → stmt_starts q ≡ true
-path_starts (Some (lexeme.Name k)) h = refl
-path_starts (Some (lexeme.Word w.Local)) h = refl
-path_starts (Some (lexeme.Word w.This)) h = refl
-path_starts _ h = absurd (cc)
+path_starts_stmt : (q : Option Lexeme) → path_starts q ≡ true → stmt_starts q ≡ true
+path_starts_stmt (Some (lexeme.Name k)) h = refl
+path_starts_stmt (Some (lexeme.Word w.Local)) h = refl
+path_starts_stmt (Some (lexeme.Word w.This)) h = refl
+path_starts_stmt _ h = absurd (cc)
 
 by_path : (i rest : List Tok) (es : List Entry) → PathBegins i es rest → ((j : List Tok) → FitEach j es rest → goes_behind (lexeme_at j) ≡ true) → StmtBegins i
-by_path i rest es d f = record { first = path_starts (lexeme_at i) d.first; second = λ t j k e n. d.second t j k e n (f j) }
+by_path i rest es d f = record { first = path_starts_stmt (lexeme_at i) d.first; second = λ t j k e n. d.second t j k e n (f j) }
 
 by_token : (i : List Tok) (l : Lexeme) → lexeme_at i ≡ Some l → stmt_starts (Some l) ≡ true → ((k : NameKind) → l ≡ lexeme.Name k → ⊥) → StmtBegins i
 by_token i l h s apart = record { first = ap stmt_starts h ∙ s; second = λ t j k e n. absurd (apart k (let a : Some l ≡ Some t.lexeme = sym h ∙ ap lexeme_at e in cc)) }

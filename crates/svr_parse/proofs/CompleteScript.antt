@@ -1,5 +1,5 @@
 -- A script is read.
-use Rattle.std.proofs.Common.{◌≡◌, ℕ, ◌≤◌, max, true, false, List, [], ◌∷◌, ◌++◌, length, Option, Some, Ok, refl, sym, ◌∙◌, ap, arith}
+use Rattle.std.proofs.Common.{◌≡◌, ℕ, ◌≤◌, max, true, false, List, [], ◌∷◌, ◌++◌, length, Option, Some, Ok, refl, sym, ◌∙◌, ap, subst, arith}
 use Rattle.svr_token.specs.declared.Lexeme.{Lexeme}
 use Rattle.svr_token.specs.declared.Lexeme.TheVariants as lexeme
 use Rattle.svr_token.specs.declared.Word.TheVariants as w
@@ -16,23 +16,23 @@ use Rattle.svr_tree.specs.ExprGrammar.{parens_spelling}
 use Rattle.svr_tree.specs.DeclGrammar.{typedef_spelling, class_spelling, label_spelling, var_spelling, IsTypedef, IsClass, IsVar, greatest, class_height, var_height}
 use Rattle.svr_tree.specs.StmtGrammar.{stmt_spelling, IsStmt, stmt_height}
 use Rattle.svr_tree.specs.ScriptGrammar.{first_word, last_word, unit_spelling, tops_spelling, spelling, IsUnit, IsLevelled, unit_height, height}
+use Rattle.svr_reader.specs.Outcomes.{Parser, lexeme_at}
 use Rattle.svr_reader.specs.declared.fixed.Fixed.TheVariants as f
-use Rattle.svr_reader.specs.Program.{call, Parser, lexeme_at, run}
-use Rattle.svr_reader.specs.Steps.{is_fixed, sees, expect, same_word, same_mark}
-use Rattle.svr_reader.specs.Lists.{until}
+use Rattle.svr_reader.specs.Program.{call, run, expect}
+use Rattle.svr_reader.specs.Steps.{is_fixed, sees, same_word, same_mark}
+use Rattle.svr_reader.specs.Lists.{until, name, parens, name_behind}
 use Rattle.svr_reader.proofs.Live.{AnyToken}
-use Rattle.svr_reader.proofs.Steps.{bind_is, takes_append, takes_parts, takes_length, takes_less, lexeme_of, expects}
+use Rattle.svr_reader.proofs.Steps.{bind_is, takes_append, takes_parts, takes_length, takes_less, lexeme_of, expects, name_complete}
 use Rattle.svr_reader.proofs.Layers.{IsComplete}
 use Rattle.svr_reader.proofs.Lists.{until_complete, until_turns_complete}
-use Rattle.svr_expr.specs.ExprRules.{name}
-use Rattle.svr_expr_laws.proofs.Names.{name_complete}
 use Rattle.svr_stmt.specs.StmtRules.{stmt_starts}
-use Rattle.svr_parse.specs.ScriptRules.{Part, a_typedef, a_class, a_var, a_stmt, var_of, stmt_of, Ans, Reader, tops, kind, parens, label, inner, stmts_on, unit, script_in}
+use Rattle.svr_decl_laws.proofs.Optional.{label_is, name_behind_complete, parens_complete}
+use Rattle.svr_parse.specs.ScriptRules.{Part, a_typedef, a_class, a_var, a_stmt, var_of, stmt_of, Ans, Rule, tops, kind, inner, stmts_on, unit, script_in}
 use Rattle.svr_parse.proofs.Parts.{greatest_append}
 use Rattle.svr_parse.proofs.Begins.{var_fills, var_apart}
 use Rattle.svr_parse.proofs.SoundTops.{tall_typedef}
 use Rattle.svr_parse.proofs.CompleteTops.{starts_unit, NotColon, tops_complete}
-use Rattle.svr_parse.proofs.CompleteUnit.{ReadsBehind, goes_behind, kind_complete, parens_complete, label_complete, goes}
+use Rattle.svr_parse.proofs.CompleteUnit.{ReadsBehind, goes_behind, kind_complete, goes}
 
 -- behind the entry that comes first
 one_entry : (i rest : List Tok) (e : Entry) (es : List Entry) → FitEach i (e ∷ es) rest → (mid : List Tok) × FitEach i (e ∷ []) mid × FitEach mid es rest
@@ -63,7 +63,7 @@ module _ (most r : ℕ) (sub : (k : Part) → Parser (Ans k)) (vars : IsComplete
     (first_stmt : (x : StmtTree) (i rest : List Tok) → IsStmt x → FitEach i (stmt_spelling x) rest → stmt_starts (lexeme_at i) ≡ true)
     (second_stmt : (t : Tok) (k : NameKind) (x : StmtTree) (i rest : List Tok) → t.lexeme ≡ lexeme.Name k → IsStmt x → FitEach (t ∷ i) (stmt_spelling x) rest → goes_behind (lexeme_at i) ≡ true)
     (stmt_fills : (x : StmtTree) → IsStmt x → 1 ≤ length (stmt_spelling x)) where
-  abbrev R : {A : Type 0} → Reader A → Parser A
+  abbrev R : {A : Type 0} → Rule A → Parser A
   R p = run most r sub p
 
   stmt_apart : (x : StmtTree) (i rest : List Tok) → IsStmt x → FitEach i (stmt_spelling x) rest → sees (f.Word w.End) i ≡ false
@@ -74,12 +74,12 @@ module _ (most r : ℕ) (sub : (k : Part) → Parser (Ans k)) (vars : IsComplete
       by (Some (lexeme.Word w.End)) s = absurd (cc)
       by _ s = refl
 
-  outer_complete : (vs : List VarTree) (i rest : List Tok) → length i ≤ most → Each IsVar vs → greatest var_height vs ≤ r → FitEach i (tokens.run var_spelling vs ++ word w.Initial ∷ []) rest
+  outer_complete : (vs : List VarTree) (i rest : List Tok) → length i ≤ most → Each IsVar vs → greatest var_height vs ≤ r → FitEach i (tokens.each_spelling var_spelling vs ++ word w.Initial ∷ []) rest
       → R (until (f.Word w.Initial) (call a_var)) i ≡ Ok ((vs, greatest var_height vs), rest)
   outer_complete vs i rest few is low h =
       (until_complete most r sub (call a_var) var_spelling IsVar var_height (f.Word w.Initial) r AnyToken vars var_fills (λ x i2 j is2 h2. (tt, var_apart i2 j x is2 h2)) tt).at vs i rest (omega (arith, few)) is low h tt
 
-  stmts_complete : (first others : List StmtTree) (i rest : List Tok) → length i ≤ most → Each IsStmt others → greatest stmt_height others ≤ r → FitEach i (tokens.run stmt_spelling others ++ word w.End ∷ []) rest
+  stmts_complete : (first others : List StmtTree) (i rest : List Tok) → length i ≤ most → Each IsStmt others → greatest stmt_height others ≤ r → FitEach i (tokens.each_spelling stmt_spelling others ++ word w.End ∷ []) rest
       → R (stmts_on (first, greatest stmt_height first)) i ≡ Ok ((first ++ others, greatest stmt_height (first ++ others)), rest)
   unfolding stmts_on
   stmts_complete first others i rest few is low h =
@@ -91,24 +91,24 @@ module _ (most r : ℕ) (sub : (k : Part) → Parser (Ans k)) (vars : IsComplete
   unfolding unit inner
   unit_complete u i rest few is low h c =
       let es8 = word (last_word u.kind) ∷ label_spelling u.label in
-      let es7 = tokens.run stmt_spelling u.stmts ++ word w.End ∷ es8 in
-      let es6 = tokens.run var_spelling u.inner ++ es7 in
-      let es4 = tokens.run var_spelling u.outer ++ word w.Initial ∷ (word w.Begin ∷ es6) in
+      let es7 = tokens.each_spelling stmt_spelling u.stmts ++ word w.End ∷ es8 in
+      let es6 = tokens.each_spelling var_spelling u.inner ++ es7 in
+      let es4 = tokens.each_spelling var_spelling u.outer ++ word w.Initial ∷ (word w.Begin ∷ es6) in
       let a = one_entry i rest (word (first_word u.kind)) (Name u.name ∷ (parens_spelling u.parens ++ mark m.Semicolon ∷ es4)) h in
       let b = one_entry a.0 rest (Name u.name) (parens_spelling u.parens ++ mark m.Semicolon ∷ es4) a.2 in
       let d = takes_parts b.0 (parens_spelling u.parens) (mark m.Semicolon ∷ es4) rest b.2 in
       let e = one_entry d.0 rest (mark m.Semicolon) es4 d.2 in
-      let o = ended_parts e.0 rest (tokens.run var_spelling u.outer) (word w.Initial) (word w.Begin ∷ es6) e.2 in
+      let o = ended_parts e.0 rest (tokens.each_spelling var_spelling u.outer) (word w.Initial) (word w.Begin ∷ es6) e.2 in
       let g = one_entry o.0 rest (word w.Begin) es6 o.2 in
       let la = takes_less i (word (first_word u.kind) ∷ []) a.0 a.1 in
       let lb = takes_less a.0 (Name u.name ∷ []) b.0 b.1 in
       let ld = takes_less b.0 (parens_spelling u.parens) d.0 d.1 in
       let le = takes_less d.0 (mark m.Semicolon ∷ []) e.0 e.1 in
-      let lo = takes_less e.0 (tokens.run var_spelling u.outer ++ word w.Initial ∷ []) o.0 o.1 in
+      let lo = takes_less e.0 (tokens.each_spelling var_spelling u.outer ++ word w.Initial ∷ []) o.0 o.1 in
       let lg = takes_less o.0 (word w.Begin ∷ []) g.0 g.1 in
-      let v = takes_parts g.0 (tokens.run var_spelling u.inner) es7 rest g.2 in
-      let s = ended_parts v.0 rest (tokens.run stmt_spelling u.stmts) (word w.End) es8 v.2 in
-      let z = takes_append g.0 (tokens.run var_spelling u.inner) (tokens.run stmt_spelling u.stmts ++ word w.End ∷ []) v.0 s.0 v.1 s.1 in
+      let v = takes_parts g.0 (tokens.each_spelling var_spelling u.inner) es7 rest g.2 in
+      let s = ended_parts v.0 rest (tokens.each_spelling stmt_spelling u.stmts) (word w.End) es8 v.2 in
+      let z = takes_append g.0 (tokens.each_spelling var_spelling u.inner) (tokens.each_spelling stmt_spelling u.stmts ++ word w.End ∷ []) v.0 s.0 v.1 s.1 in
       let some = takes_length s.0 es8 rest s.2 in
       let way = goes most r sub vars stmts vars_of stmts_of first_stmt second_stmt stmt_fills most ([], 0) u.inner u.stmts g.0 s.0 (omega (arith, few, la, lb, ld, le, lo, lg, some)) (omega (arith, few, la, lb, ld, le, lo, lg)) is.1 (omega (arith, low)) is.2 (omega (arith, low)) z in
       let x = one_entry s.0 rest (word (last_word u.kind)) (label_spelling u.label) s.2 in
@@ -126,7 +126,7 @@ module _ (most r : ℕ) (sub : (k : Part) → Parser (Ans k)) (vars : IsComplete
       (bind_is (R (stmts_on (way.first, greatest stmt_height way.first)) way.mid) _ (u.stmts, greatest stmt_height u.stmts) s.0 _
       (stmts_complete way.first way.others way.mid s.0 (omega (arith, few, la, lb, ld, le, lo, lg, way.less)) way.are way.low way.takes ∙ ap (λ y. Ok (y, s.0)) all)
       (bind_is (R (expect (f.Word (last_word u.kind))) s.0) _ tt x.0 _ (expects most r sub (f.Word (last_word u.kind)) s.0 x.0 x.1)
-      (bind_is (R label x.0) _ u.label rest _ (label_complete most r sub u.label x.0 rest x.2 c) refl)))))))))
+      (bind_is (R (name_behind (f.Mark m.Colon)) x.0) _ u.label rest _ (name_behind_complete most r sub (f.Mark m.Colon) u.label x.0 rest (subst (λ es. FitEach x.0 es rest) (sym (label_is u.label)) x.2) c) refl)))))))))
 
   module _ (types : IsComplete typedef_spelling IsTypedef tall_typedef most r AnyToken (sub a_typedef)) (classes : IsComplete class_spelling IsClass class_height most r NotColon (sub a_class)) where
     pub script_complete : (t : ScriptTree) (i : List Tok) → length i ≤ most → IsLevelled t → height t ≤ r → FitEach i (spelling t) [] → R script_in i ≡ Ok ((t, height t), [])

@@ -11,14 +11,15 @@ use Rattle.svr_tree.specs.declared.script.Top.TheVariants.{OfType, OfClass}
 use Rattle.svr_tree.specs.DeclTree.{TypeTree, ClassTree}
 use Rattle.svr_tree.specs.DeclGrammar.{typedef_spelling, class_spelling, IsTypedef, IsClass, greatest, class_height}
 use Rattle.svr_tree.specs.ScriptGrammar.{tops_spelling, IsOrder}
+use Rattle.svr_reader.specs.Outcomes.{Turn, go, done, Parser, lexeme_at, turned, turns}
 use Rattle.svr_reader.specs.declared.fixed.Fixed.TheVariants as f
-use Rattle.svr_reader.specs.Program.{Turn, go, done, peek, Parser, lexeme_at, turned, turns, run}
+use Rattle.svr_reader.specs.Program.{peek, run}
 use Rattle.svr_reader.specs.Steps.{is_fixed}
-use Rattle.svr_reader.specs.Lists.{◌>>=◌, Tall}
+use Rattle.svr_reader.specs.Lists.{◌>>=◌, WithHeight}
 use Rattle.svr_reader.proofs.Live.{AnyToken}
 use Rattle.svr_reader.proofs.Steps.{bind_is, takes_parts, takes_length}
 use Rattle.svr_reader.proofs.Layers.{IsComplete}
-use Rattle.svr_parse.specs.ScriptRules.{Part, a_typedef, a_class, Ans, Reader, Tops, no_tops, with_type, with_class, top_by, tops}
+use Rattle.svr_parse.specs.ScriptRules.{Part, a_typedef, a_class, Ans, Rule, Tops, no_tops, with_type, with_class, top_by, tops}
 use Rattle.svr_parse.proofs.Parts.{type_spells, class_spells, type_behind, class_behind}
 use Rattle.svr_parse.proofs.SoundTops.{tall_typedef}
 
@@ -66,22 +67,22 @@ follows ts (c ∷ cs) (OfClass ∷ order) i rest o h u =
     subst NotColon (sym (first_of_class c i p.0 p.1)) refl
 
 module _ (most r : ℕ) (sub : (k : Part) → Parser (Ans k)) (types : IsComplete typedef_spelling IsTypedef tall_typedef most r AnyToken (sub a_typedef)) (classes : IsComplete class_spelling IsClass class_height most r NotColon (sub a_class)) where
-  abbrev R : {A : Type 0} → Reader A → Parser A
+  abbrev R : {A : Type 0} → Rule A → Parser A
   R p = run most r sub p
 
-  abbrev step : Tall Tops → Parser (Turn (Tall Tops) (Tall Tops))
+  abbrev step : WithHeight Tops → Parser (Turn (WithHeight Tops) (WithHeight Tops))
   step s = R (peek >>= top_by s)
 
   -- s and more
-  abbrev pub longer : Tall Tops → List TypeTree → List ClassTree → List Top → Tall Tops
+  abbrev pub longer : WithHeight Tops → List TypeTree → List ClassTree → List Top → WithHeight Tops
   longer s ts cs order = (record { types = s.0.types ++ ts; classes = s.0.classes ++ cs; order = s.0.order ++ order }, max s.1 (max (greatest tall_typedef ts) (greatest class_height cs)))
 
-  stops : (s : Tall Tops) (q : Option Lexeme) (i : List Tok) → starts_unit q ≡ true → R (top_by s q) i ≡ Ok (done s, i)
+  stops : (s : WithHeight Tops) (q : Option Lexeme) (i : List Tok) → starts_unit q ≡ true → R (top_by s q) i ≡ Ok (done s, i)
   stops s (Some (lexeme.Word w.Module)) i h = refl
   stops s (Some (lexeme.Word w.Program)) i h = refl
   stops s _ i h = absurd (cc)
 
-  nothing_more : (s : Tall Tops) → longer s [] [] [] ≡ s
+  nothing_more : (s : WithHeight Tops) → longer s [] [] [] ≡ s
   nothing_more s =
       let d : max s.1 (max 0 0) ≡ s.1 = omega arith in
       ap (λ z. (record { types = z; classes = s.0.classes ++ []; order = s.0.order ++ [] }, max s.1 (max 0 0))) (append-nil s.0.types)
@@ -89,17 +90,17 @@ module _ (most r : ℕ) (sub : (k : Part) → Parser (Ans k)) (types : IsComplet
       ∙ ap (λ z. (record { types = s.0.types; classes = s.0.classes; order = z }, max s.1 (max 0 0))) (append-nil s.0.order)
       ∙ ap (λ z. (s.0, z)) d
 
-  type_first : (s : Tall Tops) (t : TypeTree) (ts : List TypeTree) (cs : List ClassTree) (order : List Top) → longer (with_type s (t, tall_typedef t)) ts cs order ≡ longer s (t ∷ ts) cs (OfType ∷ order)
+  type_first : (s : WithHeight Tops) (t : TypeTree) (ts : List TypeTree) (cs : List ClassTree) (order : List Top) → longer (with_type s (t, tall_typedef t)) ts cs order ≡ longer s (t ∷ ts) cs (OfType ∷ order)
   type_first s t ts cs order =
       let a = append_assoc s.0.types (t ∷ []) ts in let c = append_assoc s.0.order (OfType ∷ []) order in
       let d : max (max s.1 (tall_typedef t)) (max (greatest tall_typedef ts) (greatest class_height cs)) ≡ max s.1 (max (max (tall_typedef t) (greatest tall_typedef ts)) (greatest class_height cs)) = omega arith in cc
 
-  class_first : (s : Tall Tops) (t : ClassTree) (ts : List TypeTree) (cs : List ClassTree) (order : List Top) → longer (with_class s (t, class_height t)) ts cs order ≡ longer s ts (t ∷ cs) (OfClass ∷ order)
+  class_first : (s : WithHeight Tops) (t : ClassTree) (ts : List TypeTree) (cs : List ClassTree) (order : List Top) → longer (with_class s (t, class_height t)) ts cs order ≡ longer s ts (t ∷ cs) (OfClass ∷ order)
   class_first s t ts cs order =
       let a = append_assoc s.0.classes (t ∷ []) cs in let c = append_assoc s.0.order (OfClass ∷ []) order in
       let d : max (max s.1 (class_height t)) (max (greatest tall_typedef ts) (greatest class_height cs)) ≡ max s.1 (max (greatest tall_typedef ts) (max (class_height t) (greatest class_height cs))) = omega arith in cc
 
-  turns_complete : (n : ℕ) (s : Tall Tops) (ts : List TypeTree) (cs : List ClassTree) (order : List Top) (i rest : List Tok) → length i < n + length rest → length i ≤ most → IsOrder ts cs order → Each IsTypedef ts → Each IsClass cs
+  turns_complete : (n : ℕ) (s : WithHeight Tops) (ts : List TypeTree) (cs : List ClassTree) (order : List Top) (i rest : List Tok) → length i < n + length rest → length i ≤ most → IsOrder ts cs order → Each IsTypedef ts → Each IsClass cs
       → greatest tall_typedef ts ≤ r → greatest class_height cs ≤ r → FitEach i (tops_spelling ts cs order) rest → starts_unit (lexeme_at rest) ≡ true → turns n step s i ≡ Ok (longer s ts cs order, rest)
   turns_complete zero s ts cs order i rest full few o a b low low2 h u = absurd (omega (arith, full, takes_length i (tops_spelling ts cs order) rest h))
   turns_complete (suc n) s [] [] [] i rest full few o a b low low2 h u =

@@ -17,23 +17,22 @@ use Rattle.svr_tree.specs.ExprGrammar.{parens_spelling}
 use Rattle.svr_tree.specs.DeclGrammar.{label_spelling, var_spelling, IsVar, greatest, var_height}
 use Rattle.svr_tree.specs.StmtGrammar.{stmt_spelling, IsStmt, stmt_height}
 use Rattle.svr_tree.specs.ScriptGrammar.{first_word}
+use Rattle.svr_reader.specs.Outcomes.{Turn, go, done, Parser, lexeme_at, turned, turns}
 use Rattle.svr_reader.specs.declared.fixed.Fixed.TheVariants as f
-use Rattle.svr_reader.specs.Program.{Turn, go, done, Program, pure, bind, peek, Parser, lexeme_at, turned, turns, run}
-use Rattle.svr_reader.specs.Steps.{is_fixed, sees, expect}
-use Rattle.svr_reader.specs.Lists.{◌>>=◌, ◌>>◌, Tall, with_last}
+use Rattle.svr_reader.specs.Program.{Program, pure, bind, peek, run, expect, known_name}
+use Rattle.svr_reader.specs.Steps.{is_fixed, sees}
+use Rattle.svr_reader.specs.Lists.{◌>>=◌, ◌>>◌, WithHeight, with_last, name}
 use Rattle.svr_reader.proofs.Live.{AnyToken}
-use Rattle.svr_reader.proofs.Steps.{bind_is, takes_parts, takes_length, takes_less, lexeme_of, expects, led_takes, led_no}
+use Rattle.svr_reader.proofs.Steps.{bind_is, takes_parts, takes_length, takes_less, lexeme_of, expects, led_takes, led_no, known_name_complete, name_complete}
 use Rattle.svr_reader.proofs.Layers.{IsComplete}
-use Rattle.svr_expr.specs.ExprRules.{known_name, name}
-use Rattle.svr_expr_laws.proofs.Names.{known_name_complete, name_complete}
 use Rattle.svr_decl.specs.DeclRules.{starts_type}
 use Rattle.svr_stmt.specs.StmtRules.{stmt_starts}
-use Rattle.svr_parse.specs.ScriptRules.{Part, a_var, a_stmt, var_of, stmt_of, Ans, Reader, kind_by, kind, parens, label, Inner, named_by, choose_var, inner_by}
+use Rattle.svr_parse.specs.ScriptRules.{Part, a_var, a_stmt, var_of, stmt_of, Ans, Rule, kind_by, kind, Inner, named_by, choose_var, inner_by}
 use Rattle.svr_parse.proofs.Begins.{VarBegins, by_word, by_name, var_begins, var_fills}
 use Rattle.svr_parse.proofs.CompleteTops.{NotColon}
 
 -- what may be said of an answer that is to come
-abbrev pub ReadsBehind : {X : Type 0} → (X → List Entry) → (X → Type 0) → (X → ℕ) → ℕ → ℕ → Tok → Parser (Tall X) → Type 0
+abbrev pub ReadsBehind : {X : Type 0} → (X → List Entry) → (X → Type 0) → (X → ℕ) → ℕ → ℕ → Tok → Parser (WithHeight X) → Type 0
 ReadsBehind {X = X} spell Is high most r t p = (x : X) (i rest : List Tok) → length (t ∷ i) ≤ most + length rest → Is x → high x ≤ r → FitEach (t ∷ i) (spell x) rest → p i ≡ Ok ((x, high x), rest)
 
 -- what stands behind the name that a statement begins with
@@ -55,7 +54,7 @@ not_name (Some (lexeme.Word w.End)) h none = refl
 not_name q h none = h
 
 module _ (most r : ℕ) (sub : (k : Part) → Parser (Ans k)) where
-  abbrev R : {A : Type 0} → Reader A → Parser A
+  abbrev R : {A : Type 0} → Rule A → Parser A
   R p = run most r sub p
 
   pub kind_complete : (k : UnitKind) (i rest : List Tok) → FitEach i (word (first_word k) ∷ []) rest → R kind i ≡ Ok (k, rest)
@@ -64,22 +63,6 @@ module _ (most r : ℕ) (sub : (k : Part) → Parser (Ans k)) where
   kind_complete unit_kind.Module (t ∷ i) rest h = ap (λ q. R (kind_by (Some q)) (t ∷ i)) h.0 ∙ ap (λ z. Ok (unit_kind.Module, z)) h.1
   kind_complete unit_kind.Program (t ∷ i) rest h = ap (λ q. R (kind_by (Some q)) (t ∷ i)) h.0 ∙ ap (λ z. Ok (unit_kind.Program, z)) h.1
 
-  pub parens_complete : (b : Bool) (i rest : List Tok) → FitEach i (parens_spelling b) rest → sees (f.Mark m.OpenParen) rest ≡ false → R parens i ≡ Ok (b, rest)
-  unfolding parens
-  parens_complete true i rest h c =
-      let p = takes_parts i (mark m.OpenParen ∷ []) (mark m.CloseParen ∷ []) rest h in
-      led_takes most r sub (f.Mark m.OpenParen) (expect (f.Mark m.CloseParen) >> pure true) (pure false) i p.0 p.1
-      ∙ bind_is (R (expect (f.Mark m.CloseParen)) p.0) _ tt rest _ (expects most r sub (f.Mark m.CloseParen) p.0 rest p.2) refl
-  parens_complete false i rest h c = led_no most r sub (f.Mark m.OpenParen) (expect (f.Mark m.CloseParen) >> pure true) (pure false) i (ap (sees (f.Mark m.OpenParen)) h ∙ c) ∙ ap (λ z. Ok (false, z)) h
-
-  pub label_complete : (l : Option ℕ) (i rest : List Tok) → FitEach i (label_spelling l) rest → NotColon (lexeme_at rest) → R label i ≡ Ok (l, rest)
-  unfolding label
-  label_complete (Some n) i rest h c =
-      let p = takes_parts i (mark m.Colon ∷ []) (Name n ∷ []) rest h in
-      led_takes most r sub (f.Mark m.Colon) (bind name (λ n2. pure (Some n2))) (pure None) i p.0 p.1
-      ∙ bind_is (R name p.0) _ n rest _ (name_complete most r sub n p.0 rest p.2) refl
-  label_complete None i rest h c = led_no most r sub (f.Mark m.Colon) (bind name (λ n2. pure (Some n2))) (pure None) i (ap (is_fixed (f.Mark m.Colon)) (ap lexeme_at h) ∙ c) ∙ ap (λ z. Ok (None, z)) h
-
   module _ (vars : IsComplete var_spelling IsVar var_height most r AnyToken (sub a_var)) (stmts : IsComplete stmt_spelling IsStmt stmt_height most r AnyToken (sub a_stmt))
       (vars_of : (t : Tok) (k : NameKind) → t.lexeme ≡ lexeme.Name k → ReadsBehind var_spelling IsVar var_height most r t (sub (var_of t.at)))
       (stmts_of : (t : Tok) (k : NameKind) → t.lexeme ≡ lexeme.Name k → ReadsBehind stmt_spelling IsStmt stmt_height most r t (sub (stmt_of (t.at, k))))
@@ -87,13 +70,13 @@ module _ (most r : ℕ) (sub : (k : Part) → Parser (Ans k)) where
       (second_stmt : (t : Tok) (k : NameKind) (x : StmtTree) (i rest : List Tok) → t.lexeme ≡ lexeme.Name k → IsStmt x → FitEach (t ∷ i) (stmt_spelling x) rest → goes_behind (lexeme_at i) ≡ true)
       (stmt_fills : (x : StmtTree) → IsStmt x → 1 ≤ length (stmt_spelling x)) where
     abbrev Vars : Type 0
-    Vars = Tall (List VarTree)
+    Vars = WithHeight (List VarTree)
 
     abbrev step : Vars → Parser (Turn Vars Inner)
     step s = R (peek >>= inner_by s)
 
     abbrev ended : List StmtTree → List Entry
-    ended ss = tokens.run stmt_spelling ss ++ word w.End ∷ []
+    ended ss = tokens.each_spelling stmt_spelling ss ++ word w.End ∷ []
 
     abbrev longer : Vars → List VarTree → Vars
     longer s vs = (s.0 ++ vs, max s.1 (greatest var_height vs))
@@ -164,7 +147,7 @@ module _ (most r : ℕ) (sub : (k : Part) → Parser (Ans k)) where
         → Each IsStmt (x ∷ ss) → greatest stmt_height (x ∷ ss) ≤ r → Goes (suc n) s [] (x ∷ ss) (t ∷ i) rest
     name_stmt_here n s x ss t k i mid rest few l h h2 are low =
         let less = takes_less (t ∷ i) (stmt_spelling x) mid h in
-        let tall : stmt_height x ≡ max (stmt_height x) 0 = omega arith in
+        let height : stmt_height x ≡ max (stmt_height x) 0 = omega arith in
         record {
           first = x ∷ [];
           others = ss;
@@ -172,7 +155,7 @@ module _ (most r : ℕ) (sub : (k : Part) → Parser (Ans k)) where
           all = refl;
           reads = bind_is (step s (t ∷ i)) (turned (turns n step)) (done (s, (x ∷ [], stmt_height x))) mid _
               (name_turn s t k i l ∙ named_stmt s (t.at, k) (lexeme_at i) i x mid (second_stmt t k x i mid l are.0 h) (stmts_of t k l x i mid (omega (arith, few)) are.0 (omega (arith, low)) h))
-              (ap (λ z. Ok ((s, (x ∷ [], z)), mid)) tall ∙ ap (λ z. Ok ((z, (x ∷ [], max (stmt_height x) 0)), mid)) (sym (same s)));
+              (ap (λ z. Ok ((s, (x ∷ [], z)), mid)) height ∙ ap (λ z. Ok ((z, (x ∷ [], max (stmt_height x) 0)), mid)) (sym (same s)));
           takes = h2;
           less = less;
           are = are.1;
@@ -188,18 +171,18 @@ module _ (most r : ℕ) (sub : (k : Part) → Parser (Ans k)) where
         stop_here n s (x ∷ ss) i rest (not_name (lexeme_at i) (first_stmt x i mid are.0 h) (λ k e2. absurd (let both = sym e ∙ e2 in cc))) whole are low
 
     pub goes : (n : ℕ) (s : Vars) (vs : List VarTree) (ss : List StmtTree) (i rest : List Tok) → length i < n + length rest → length i ≤ most → Each IsVar vs → greatest var_height vs ≤ r → Each IsStmt ss → greatest stmt_height ss ≤ r
-        → FitEach i (tokens.run var_spelling vs ++ ended ss) rest → Goes n s vs ss i rest
-    goes zero s vs ss i rest full few are low are2 low2 h = absurd (omega (arith, full, takes_length i (tokens.run var_spelling vs ++ ended ss) rest h))
+        → FitEach i (tokens.each_spelling var_spelling vs ++ ended ss) rest → Goes n s vs ss i rest
+    goes zero s vs ss i rest full few are low are2 low2 h = absurd (omega (arith, full, takes_length i (tokens.each_spelling var_spelling vs ++ ended ss) rest h))
     goes (suc n) s [] [] i rest full few are low are2 low2 h = stop_here n s [] i rest (ap stmt_or_end (lexeme_of i rest (lexeme.Word w.End) [] h)) h tt low2
     goes (suc n) s [] (x ∷ ss) i rest full few are low are2 low2 h =
-        let p = takes_parts i (stmt_spelling x) (ended ss) rest (subst (λ es. FitEach i es rest) (append_assoc (stmt_spelling x) (tokens.run stmt_spelling ss) (word w.End ∷ [])) h) in
+        let p = takes_parts i (stmt_spelling x) (ended ss) rest (subst (λ es. FitEach i es rest) (append_assoc (stmt_spelling x) (tokens.each_spelling stmt_spelling ss) (word w.End ∷ [])) h) in
         stmt_first n s x ss i p.0 rest (lexeme_at i) refl few p.1 p.2 are2 low2 h
     goes (suc n) s (v ∷ vs) ss i rest full few are low are2 low2 h =
-        let p = takes_parts i (var_spelling v) (tokens.run var_spelling vs ++ ended ss) rest (subst (λ es. FitEach i es rest) (append_assoc (var_spelling v) (tokens.run var_spelling vs) (ended ss)) h) in
+        let p = takes_parts i (var_spelling v) (tokens.each_spelling var_spelling vs ++ ended ss) rest (subst (λ es. FitEach i es rest) (append_assoc (var_spelling v) (tokens.each_spelling var_spelling vs) (ended ss)) h) in
         let long = takes_length i (var_spelling v) p.0 p.1 in
         let some = var_fills v are.0 in
         let d = goes n (with_last s (v, var_height v)) vs ss p.0 rest (omega (arith, full, long, some)) (omega (arith, few, long)) are.1 (omega (arith, low)) are2 low2 p.2 in
-        let tall : max (max s.1 (var_height v)) (greatest var_height vs) ≡ max s.1 (max (var_height v) (greatest var_height vs)) = omega arith in
+        let height : max (max s.1 (var_height v)) (greatest var_height vs) ≡ max s.1 (max (var_height v) (greatest var_height vs)) = omega arith in
         let all = append_assoc s.0 (v ∷ []) vs in
         let is : longer (with_last s (v, var_height v)) vs ≡ longer s (v ∷ vs) = cc in
         record {

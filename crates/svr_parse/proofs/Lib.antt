@@ -1,3 +1,4 @@
+pub mod Local
 pub mod Parts
 pub mod SoundTops
 pub mod SoundUnit
@@ -11,5 +12,6 @@ pub mod LiveTops
 pub mod LiveUnit
 pub mod Looping
 pub mod Named
-pub mod Laws
+pub mod Layer
 pub mod Whole
+pub mod Once

@@ -4,8 +4,9 @@ use Rattle.svr_token.specs.declared.Lexeme.{Lexeme}
 use Rattle.svr_token.specs.declared.Lexeme.TheVariants as lexeme
 use Rattle.svr_token.specs.declared.Word.TheVariants as w
 use Rattle.svr_tree.specs.Tokens.{Tok}
-use Rattle.svr_reader.specs.Program.{Turn, go, done, Parser, run}
-use Rattle.svr_reader.specs.Lists.{Tall}
+use Rattle.svr_reader.specs.Outcomes.{Turn, go, done, Parser}
+use Rattle.svr_reader.specs.Program.{run}
+use Rattle.svr_reader.specs.Lists.{WithHeight}
 use Rattle.svr_reader.proofs.Local.{IsLocal}
 use Rattle.svr_reader.proofs.Live.{AnyToken}
 use Rattle.svr_reader.proofs.Goals.{Goal, then_form, pure_goal}
@@ -19,15 +20,15 @@ abbrev pub StartsUnit : Option Lexeme → Type 0
 StartsUnit q = starts_unit q ≡ true
 
 module _ (most r : ℕ) (sub : (k : Part) → Parser (Ans k)) (ls : (k : Part) → IsLocal (sub k)) (some : 1 ≤ most) (types : IsViable most AnyToken (Low r) (sub a_typedef)) (classes : IsViable most NotColon (Low r) (sub a_class)) where
-  abbrev TopTurned : Turn (Tall Tops) (Tall Tops) → Type 0
+  abbrev TopTurned : Turn (WithHeight Tops) (WithHeight Tops) → Type 0
   TopTurned = Turned most r sub ls StartsUnit AnyAnswer AnyAnswer top_by (λ s. s) (λ s _. tt)
 
-  top_peeks : (s : Tall Tops) → (q : Option Lexeme) → Peeks most r sub ls StartsUnit TopTurned (done s) (top_by s q)
+  top_peeks : (s : WithHeight Tops) → (q : Option Lexeme) → Peeks most r sub ls StartsUnit TopTurned (done s) (top_by s q)
   top_peeks s (Some (lexeme.Word w.TypeDef)) = reads (then_form most r sub ls (form_of most r sub ls {k = a_typedef} types) (λ x g. pure_goal most r sub ls {Q = TopTurned} {x = go (with_type s x)} (tt, λ _ h. h) (λ _ _. tt)))
   top_peeks s (Some (lexeme.Word w.Class)) = reads (then_form most r sub ls (form_of most r sub ls {k = a_class} classes) (λ x g. pure_goal most r sub ls {Q = TopTurned} {x = go (with_class s x)} (tt, λ _ h. h) (λ q h. unit_no_colon q h)))
   top_peeks s _ = stops (λ i. refl)
 
-  top_ends : (s : Tall Tops) (q : Option Lexeme) (i : List Tok) → StartsUnit q → run most r sub (top_by s q) i ≡ Ok (done s, i)
+  top_ends : (s : WithHeight Tops) (q : Option Lexeme) (i : List Tok) → StartsUnit q → run most r sub (top_by s q) i ≡ Ok (done s, i)
   top_ends s (Some (lexeme.Word w.Module)) i h = refl
   top_ends s (Some (lexeme.Word w.Program)) i h = refl
   top_ends s _ i h = absurd (cc)

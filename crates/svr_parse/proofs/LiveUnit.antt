@@ -10,23 +10,23 @@ use Rattle.svr_tree.specs.Tokens.{Tok}
 use Rattle.svr_tree.specs.DeclTree.{VarTree}
 use Rattle.svr_tree.specs.StmtTree.{StmtTree}
 use Rattle.svr_tree.specs.ScriptGrammar.{last_word}
+use Rattle.svr_reader.specs.Outcomes.{Turn, go, done, Parser, turned, turns}
 use Rattle.svr_reader.specs.declared.fixed.Fixed.TheVariants as f
-use Rattle.svr_reader.specs.Program.{Turn, go, done, pure, bind, peek, call, Parser, turned, turns, run}
-use Rattle.svr_reader.specs.Steps.{is_fixed, expect, same_mark}
-use Rattle.svr_reader.specs.Lists.{◌>>=◌, ◌>>◌, Tall, with_last, until_step}
+use Rattle.svr_reader.specs.Program.{pure, bind, peek, call, run, expect}
+use Rattle.svr_reader.specs.Steps.{is_fixed, same_mark}
+use Rattle.svr_reader.specs.Lists.{◌>>=◌, ◌>>◌, WithHeight, with_last, until_step, name}
 use Rattle.svr_reader.proofs.Steps.{bind_is, led_yes}
 use Rattle.svr_reader.proofs.Local.{IsLocal}
 use Rattle.svr_reader.proofs.Live.{AnyToken, Finishes}
 use Rattle.svr_reader.proofs.Goals.{Goal, Form, then_goal, then_form, goal_of, pure_goal, take_form, peek_form, refuse_form, any_goal, weaken_form}
-use Rattle.svr_reader.proofs.Led.{AnyAnswer, tok, goal_expect, opt_goal}
+use Rattle.svr_reader.proofs.Led.{AnyAnswer, tok, goal_expect, opt_goal, known_name_form, name_goal}
 use Rattle.svr_reader.proofs.LivePeeks.{Peeks, reads, stops, Turned, peek_loop_goal}
 use Rattle.svr_reader.proofs.LiveLists.{until_goal, until_on_goal}
 use Rattle.svr_reader.proofs.Layers.{IsViable, Low, form_of}
 use Rattle.svr_reader.proofs.Layers as layers
-use Rattle.svr_expr.specs.ExprRules.{name}
-use Rattle.svr_expr_laws.proofs.LiveParts.{known_name_form, name_goal}
 use Rattle.svr_decl.specs.DeclRules.{starts_type}
-use Rattle.svr_parse.specs.ScriptRules.{Part, a_var, a_stmt, var_of, stmt_of, Ans, Reader, kind_by, kind, parens, label, Inner, named_by, choose_var, inner_by, inner, stmts_on, unit}
+use Rattle.svr_decl_laws.proofs.Optional.{name_behind_goal, parens_goal}
+use Rattle.svr_parse.specs.ScriptRules.{Part, a_var, a_stmt, var_of, stmt_of, Ans, Rule, kind_by, kind, Inner, named_by, choose_var, inner_by, inner, stmts_on, unit}
 use Rattle.svr_parse.proofs.CompleteTops.{NotColon}
 use Rattle.svr_parse.proofs.LiveTops.{StartsUnit}
 
@@ -44,14 +44,14 @@ module _ (most r : ℕ) (sub : (k : Part) → Parser (Ans k)) (ls : (k : Part) �
     (vars : IsViable most AnyToken (Low r) (sub a_var)) (stmts : IsViable most AnyToken (layers.Part r) (sub a_stmt))
     (vars_of : (n : ℕ) → IsViable most AnyToken (Low r) (sub (var_of n))) (stmts_of : (n : ℕ × NameKind) → IsViable most AnyToken (layers.Part r) (sub (stmt_of n)))
     (var_fin : (n : ℕ) → Finishes IsAName AnyToken (Low r) (sub (var_of n)))
-    (takes_end : (s : Tall (List StmtTree)) (i : List Tok) (y : Tall (List StmtTree)) (j : List Tok) → run most r sub (stmts_on s) i ≡ Ok (y, j) → length j < length i) where
-  abbrev R : {A : Type 0} → Reader A → Parser A
+    (takes_end : (s : WithHeight (List StmtTree)) (i : List Tok) (y : WithHeight (List StmtTree)) (j : List Tok) → run most r sub (stmts_on s) i ≡ Ok (y, j) → length j < length i) where
+  abbrev R : {A : Type 0} → Rule A → Parser A
   R p = run most r sub p
 
-  abbrev G : {X : Type 0} → (D C : Option Lexeme → Type 0) → (X → Type 0) → Reader X → Type 0
+  abbrev G : {X : Type 0} → (D C : Option Lexeme → Type 0) → (X → Type 0) → Rule X → Type 0
   G D C Q q = Goal most r sub ls D C Q q
 
-  abbrev F : {X : Type 0} → (C : Option Lexeme → Type 0) → (X → Type 0) → Reader X → Type 0
+  abbrev F : {X : Type 0} → (C : Option Lexeme → Type 0) → (X → Type 0) → Rule X → Type 0
   F C Q q = Form most r sub ls C Q q
 
   kind_by_form : (q : Option Lexeme) → F AnyToken AnyAnswer (kind_by q)
@@ -63,20 +63,10 @@ module _ (most r : ℕ) (sub : (k : Part) → Parser (Ans k)) (ls : (k : Part) �
   unfolding kind
   kind_goal = goal_of most r sub ls (peek_form most r sub ls kind_by_form) (record { more = tok (lexeme.Word w.Module) ∷ []; x = unit_kind.Module; good = tt; opens = λ z cl. refl; ends = λ z cl. refl })
 
-  parens_goal : G NotOpen NotOpen AnyAnswer parens
-  unfolding parens
-  parens_goal = opt_goal most r sub ls (f.Mark m.OpenParen) (expect (f.Mark m.CloseParen) >> pure true) false NotOpen AnyAnswer (λ _ h. h)
-      (then_goal most r sub ls (goal_expect most r sub ls (f.Mark m.CloseParen) tt) (λ _ _. pure_goal most r sub ls tt (λ _ _. tt))) tt
-
-  label_goal : G NotColon NotColon AnyAnswer label
-  unfolding label
-  label_goal = opt_goal most r sub ls (f.Mark m.Colon) (bind name (λ n. pure (Some n))) None NotColon AnyAnswer (λ _ h. h)
-      (then_goal most r sub ls (name_goal most r sub ls some tt) (λ _ _. pure_goal most r sub ls tt (λ _ _. tt))) tt
-
   -- ---- the variables of a block
 
   abbrev Vars : Type 0
-  Vars = Tall (List VarTree)
+  Vars = WithHeight (List VarTree)
 
   abbrev LowStmts : Inner → Type 0
   LowStmts y = Low r y.1
@@ -108,7 +98,7 @@ module _ (most r : ℕ) (sub : (k : Part) → Parser (Ans k)) (ls : (k : Part) �
   var_peeks s false = stops (λ i. refl)
 
   inner_peeks : (s : Vars) (q : Option Lexeme) → Peeks most r sub ls IsEnd InnerTurned (done (stop s)) (inner_by s q)
-  inner_peeks s (Some (lexeme.Name k)) = reads (then_form most r sub ls (known_name_form most r sub ls some) (λ n _. named_goal s n))
+  inner_peeks s (Some (lexeme.Name k)) = reads (then_form most r sub ls (known_name_form most r sub ls) (λ n _. named_goal s n))
   inner_peeks s q = var_peeks s (starts_type q)
 
   inner_ends : (s : Vars) (q : Option Lexeme) (i : List Tok) → IsEnd q → R (inner_by s q) i ≡ Ok (done (stop s), i)
@@ -120,13 +110,13 @@ module _ (most r : ℕ) (sub : (k : Part) → Parser (Ans k)) (ls : (k : Part) �
 
   -- ---- its statements
 
-  end_turn : (n : ℕ) → 1 ≤ n → (s : Tall (List StmtTree)) (z : List Tok) → turns n (λ s2. R (until_step (f.Word w.End) (call a_stmt) s2)) s (tok (lexeme.Word w.End) ∷ z) ≡ Ok (s, z)
+  end_turn : (n : ℕ) → 1 ≤ n → (s : WithHeight (List StmtTree)) (z : List Tok) → turns n (λ s2. R (until_step (f.Word w.End) (call a_stmt) s2)) s (tok (lexeme.Word w.End) ∷ z) ≡ Ok (s, z)
   unfolding until_step
   end_turn zero h s z = absurd (omega arith)
   end_turn (suc n) h s z = bind_is (R (until_step (f.Word w.End) (call a_stmt) s) (tok (lexeme.Word w.End) ∷ z)) (turned (turns n (λ s2. R (until_step (f.Word w.End) (call a_stmt) s2)))) (done s) z _
       (led_yes most r sub (f.Word w.End) (pure (done s)) (bind (call a_stmt) (λ x. pure (go (with_last s x)))) (tok (lexeme.Word w.End)) z refl) refl
 
-  stmts_goal : (s : Tall (List StmtTree)) → Low r s → G IsEnd AnyToken (Low r) (stmts_on s)
+  stmts_goal : (s : WithHeight (List StmtTree)) → Low r s → G IsEnd AnyToken (Low r) (stmts_on s)
   unfolding stmts_on
   stmts_goal s low = let v = until_on_goal most r sub ls some r AnyToken (f.Word w.End) tt (call a_stmt) (weaken_form most r sub ls (form_of most r sub ls {k = a_stmt} stmts) (λ x g. g.1)) s low in record {
     alive = record {
@@ -149,12 +139,12 @@ module _ (most r : ℕ) (sub : (k : Part) → Parser (Ans k)) (ls : (k : Part) �
   unfolding unit same_mark
   unit_goal =
       then_goal most r sub ls kind_goal (λ k _.
-      then_goal most r sub ls (name_goal most r sub ls some tt) (λ n _.
-      then_goal most r sub ls (any_goal most r sub ls parens_goal) (λ p _.
+      then_goal most r sub ls (name_goal most r sub ls tt) (λ n _.
+      then_goal most r sub ls (any_goal most r sub ls (parens_goal most r sub ls some NotOpen (λ _ h. h))) (λ p _.
       then_goal most r sub ls (goal_expect most r sub ls {D = NotOpen} (f.Mark m.Semicolon) refl) (λ _ _.
       then_goal most r sub ls (until_goal most r sub ls some r AnyToken (f.Word w.Initial) tt (call a_var) (form_of most r sub ls {k = a_var} vars)) (λ outer _.
       then_goal most r sub ls (goal_expect most r sub ls (f.Word w.Begin) tt) (λ _ _.
       then_goal most r sub ls (any_goal most r sub ls inner_goal) (λ i low.
       then_goal most r sub ls (stmts_goal i.1 low) (λ ss _.
       then_goal most r sub ls (goal_expect most r sub ls (f.Word (last_word k)) tt) (λ _ _.
-      then_goal most r sub ls (any_goal most r sub ls label_goal) (λ l _. pure_goal most r sub ls tt (λ _ h. h)))))))))))
+      then_goal most r sub ls (any_goal most r sub ls (name_behind_goal most r sub ls some NotColon (f.Mark m.Colon) (λ _ h. h))) (λ l _. pure_goal most r sub ls tt (λ _ h. h)))))))))))

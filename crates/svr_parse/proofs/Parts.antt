@@ -9,9 +9,9 @@ use Rattle.svr_tree.specs.DeclGrammar.{typedef_spelling, class_spelling, greates
 use Rattle.svr_tree.specs.ScriptGrammar.{tops_spelling, IsOrder}
 use Rattle.svr_reader.proofs.Steps.{takes_append}
 
-pub run_append : {A : Type 0} (spell : A → List Entry) (xs ys : List A) → tokens.run spell (xs ++ ys) ≡ tokens.run spell xs ++ tokens.run spell ys
+pub run_append : {A : Type 0} (spell : A → List Entry) (xs ys : List A) → tokens.each_spelling spell (xs ++ ys) ≡ tokens.each_spelling spell xs ++ tokens.each_spelling spell ys
 run_append spell [] ys = refl
-run_append spell (x ∷ xs) ys = ap (λ es. spell x ++ es) (run_append spell xs ys) ∙ sym (append_assoc (spell x) (tokens.run spell xs) (tokens.run spell ys))
+run_append spell (x ∷ xs) ys = ap (λ es. spell x ++ es) (run_append spell xs ys) ∙ sym (append_assoc (spell x) (tokens.each_spelling spell xs) (tokens.each_spelling spell ys))
 
 pub greatest_append : {A : Type 0} (high : A → ℕ) (xs ys : List A) → greatest high (xs ++ ys) ≡ max (greatest high xs) (greatest high ys)
 greatest_append high [] ys = omega arith

@@ -16,36 +16,34 @@ use Rattle.svr_tree.specs.ExprGrammar.{parens_spelling}
 use Rattle.svr_tree.specs.DeclGrammar.{label_spelling, var_spelling, IsVar, greatest, var_height}
 use Rattle.svr_tree.specs.StmtGrammar.{stmt_spelling, IsStmt, stmt_height}
 use Rattle.svr_tree.specs.ScriptGrammar.{first_word}
+use Rattle.svr_reader.specs.Outcomes.{Turn, go, done, Parser, lexeme_at, turns}
 use Rattle.svr_reader.specs.declared.fixed.Fixed.TheVariants as f
-use Rattle.svr_reader.specs.Program.{Turn, go, done, Program, pure, bind, peek, call, Parser, lexeme_at, turns, run}
-use Rattle.svr_reader.specs.Steps.{expect}
-use Rattle.svr_reader.specs.Lists.{◌>>=◌, ◌>>◌, Tall, with_last}
-use Rattle.svr_reader.proofs.Steps.{bind_ok, yields, turn_ok, takes_append, takes_first, expect_ok, led_ok}
+use Rattle.svr_reader.specs.Program.{Program, pure, bind, peek, call, run, expect, known_name}
+use Rattle.svr_reader.specs.Lists.{◌>>=◌, ◌>>◌, WithHeight, with_last, name}
+use Rattle.svr_reader.proofs.Steps.{bind_ok, yields, turn_ok, takes_append, takes_first, expect_ok, led_ok, known_name_sound, name_sound}
 use Rattle.svr_reader.proofs.Layers.{ReadAs, IsSound}
 use Rattle.svr_reader.proofs.Lists.{Behind, until_turns_sound}
-use Rattle.svr_expr.specs.ExprRules.{known_name, name}
-use Rattle.svr_expr_laws.proofs.Names.{known_name_sound, name_sound}
 use Rattle.svr_decl.specs.DeclRules.{starts_type}
-use Rattle.svr_parse.specs.ScriptRules.{Part, a_var, a_stmt, var_of, stmt_of, Ans, Reader, kind_by, kind, parens, label, Inner, named_by, choose_var, inner_by, inner, stmts_on}
+use Rattle.svr_parse.specs.ScriptRules.{Part, a_var, a_stmt, var_of, stmt_of, Ans, Rule, kind_by, kind, Inner, named_by, choose_var, inner_by, inner, stmts_on}
 
 -- what stands behind a token that was taken already
-abbrev pub BehindToken : {X : Type 0} → (X → List Entry) → (X → Type 0) → (X → ℕ) → ℕ → Tok → Parser (Tall X) → Type 0
-BehindToken {X = X} spell Is high r t p = (i : List Tok) (x : Tall X) (j : List Tok) → p i ≡ Ok (x, j) → ReadAs spell Is high r (t ∷ i) x j
+abbrev pub BehindToken : {X : Type 0} → (X → List Entry) → (X → Type 0) → (X → ℕ) → ℕ → Tok → Parser (WithHeight X) → Type 0
+BehindToken {X = X} spell Is high r t p = (i : List Tok) (x : WithHeight X) (j : List Tok) → p i ≡ Ok (x, j) → ReadAs spell Is high r (t ∷ i) x j
 
 -- variables behind those of s, and what was read of the statements
-pub record InnerRead (r : ℕ) (s : Tall (List VarTree)) (i : List Tok) (y : Inner) (j : List Tok) : Type 0 where
+pub record InnerRead (r : ℕ) (s : WithHeight (List VarTree)) (i : List Tok) (y : Inner) (j : List Tok) : Type 0 where
   pub more : List VarTree
   pub all : y.0.0 ≡ s.0 ++ more
-  pub takes : FitEach i (tokens.run var_spelling more ++ tokens.run stmt_spelling y.1.0) j
+  pub takes : FitEach i (tokens.each_spelling var_spelling more ++ tokens.each_spelling stmt_spelling y.1.0) j
   pub vars : Each IsVar more
   pub stmts : Each IsStmt y.1.0
-  pub tall : y.0.1 ≡ max s.1 (greatest var_height more)
+  pub height : y.0.1 ≡ max s.1 (greatest var_height more)
   pub low : s.1 ≤ r → y.0.1 ≤ r
   pub stmts_tall : y.1.1 ≡ greatest stmt_height y.1.0
   pub stmts_low : y.1.1 ≤ r
 
 module _ (most r : ℕ) (sub : (k : Part) → Parser (Ans k)) where
-  abbrev R : {A : Type 0} → Reader A → Parser A
+  abbrev R : {A : Type 0} → Rule A → Parser A
   R p = run most r sub p
 
   kind_by_sound : (q : Option Lexeme) (i : List Tok) (y : UnitKind × List Tok) → lexeme_at i ≡ q → R (kind_by q) i ≡ Ok y → FitEach i (word (first_word y.0) ∷ []) y.1
@@ -59,40 +57,26 @@ module _ (most r : ℕ) (sub : (k : Part) → Parser (Ans k)) where
   unfolding kind
   kind_sound i x j h = kind_by_sound (lexeme_at i) i (x, j) refl h
 
-  pub parens_sound : (i : List Tok) (x : Bool) (j : List Tok) → R parens i ≡ Ok (x, j) → FitEach i (parens_spelling x) j
-  unfolding parens
-  parens_sound i x j h = led_ok most r sub (f.Mark m.OpenParen) (expect (f.Mark m.CloseParen) >> pure true) (pure false) i (x, j) h
-      (λ mid t e. bind_ok (R (expect (f.Mark m.CloseParen)) mid) _ (x, j) e (λ u j2 e2 k.
-      yields (λ b z. FitEach i (parens_spelling b) z) true j2 (x, j) k (takes_append i (mark m.OpenParen ∷ []) (mark m.CloseParen ∷ []) mid j2 t (expect_ok most r sub (f.Mark m.CloseParen) mid (u, j2) e2))))
-      (λ _ e. yields (λ b z. FitEach i (parens_spelling b) z) false i (x, j) e refl)
-
-  pub label_sound : (i : List Tok) (x : Option ℕ) (j : List Tok) → R label i ≡ Ok (x, j) → FitEach i (label_spelling x) j
-  unfolding label
-  label_sound i x j h = led_ok most r sub (f.Mark m.Colon) (bind name (λ n. pure (Some n))) (pure None) i (x, j) h
-      (λ mid t e. bind_ok (R name mid) _ (x, j) e (λ n j2 e2 k.
-      yields (λ b z. FitEach i (label_spelling b) z) (Some n) j2 (x, j) k (takes_append i (mark m.Colon ∷ []) (Name n ∷ []) mid j2 t (name_sound most r sub mid n j2 e2))))
-      (λ _ e. yields (λ b z. FitEach i (label_spelling b) z) None i (x, j) e refl)
-
   module _ (vars : IsSound var_spelling IsVar var_height r (sub a_var)) (stmts : IsSound stmt_spelling IsStmt stmt_height r (sub a_stmt))
       (vars_of : (t : Tok) (k : NameKind) → t.lexeme ≡ lexeme.Name k → BehindToken var_spelling IsVar var_height r t (sub (var_of t.at)))
       (stmts_of : (t : Tok) (k : NameKind) → t.lexeme ≡ lexeme.Name k → BehindToken stmt_spelling IsStmt stmt_height r t (sub (stmt_of (t.at, k)))) where
     abbrev Vars : Type 0
-    Vars = Tall (List VarTree)
+    Vars = WithHeight (List VarTree)
 
     abbrev Step : Type 0
     Step = Turn Vars Inner
 
-    abbrev VarRead : List Tok → Tall VarTree → List Tok → Type 0
+    abbrev VarRead : List Tok → WithHeight VarTree → List Tok → Type 0
     VarRead i x j = ReadAs var_spelling IsVar var_height r i x j
 
-    abbrev StmtRead : List Tok → Tall StmtTree → List Tok → Type 0
+    abbrev StmtRead : List Tok → WithHeight StmtTree → List Tok → Type 0
     StmtRead i x j = ReadAs stmt_spelling IsStmt stmt_height r i x j
 
     abbrev step : Vars → Parser Step
     step s = R (peek >>= inner_by s)
 
     named_by_ok : {G : Type 0} (s : Vars) (t : Tok) (k : NameKind) → t.lexeme ≡ lexeme.Name k → (q : Option Lexeme) (i : List Tok) (v : Step) (j : List Tok) → R (named_by s (t.at, k) q) i ≡ Ok (v, j)
-        → ((x : Tall VarTree) → VarRead (t ∷ i) x j → v ≡ go (with_last s x) → G) → ((x : Tall StmtTree) → StmtRead (t ∷ i) x j → v ≡ done (s, (x.0 ∷ [], x.1)) → G) → G
+        → ((x : WithHeight VarTree) → VarRead (t ∷ i) x j → v ≡ go (with_last s x) → G) → ((x : WithHeight StmtTree) → StmtRead (t ∷ i) x j → v ≡ done (s, (x.0 ∷ [], x.1)) → G) → G
     named_by_ok s t k is (Some (lexeme.Name k2)) i v j h a b = bind_ok (sub (var_of t.at) i) _ (v, j) h (λ x mid e g.
         let both : ◌≡◌ {A = Step × List Tok} (go (with_last s x), mid) (v, j) = cc in
         a x (subst (λ z. VarRead (t ∷ i) x z) (ap (λ z. z.1) both) (vars_of t k is i x mid e)) (sym (ap (λ z. z.0) both)))
@@ -101,14 +85,14 @@ module _ (most r : ℕ) (sub : (k : Part) → Parser (Ans k)) where
         b x (subst (λ z. StmtRead (t ∷ i) x z) (ap (λ z. z.1) both) (stmts_of t k is i x mid e)) (sym (ap (λ z. z.0) both)))
 
     plain_var_ok : {G : Type 0} (s : Vars) (c : Bool) (i : List Tok) (v : Step) (j : List Tok) → R (choose_var s c) i ≡ Ok (v, j)
-        → ((x : Tall VarTree) → VarRead i x j → v ≡ go (with_last s x) → G) → (v ≡ done (s, ([], 0)) → i ≡ j → G) → G
+        → ((x : WithHeight VarTree) → VarRead i x j → v ≡ go (with_last s x) → G) → (v ≡ done (s, ([], 0)) → i ≡ j → G) → G
     plain_var_ok s true i v j h a c = bind_ok (sub a_var i) _ (v, j) h (λ x mid e g.
         let both : ◌≡◌ {A = Step × List Tok} (go (with_last s x), mid) (v, j) = cc in
         a x (subst (λ z. VarRead i x z) (ap (λ z. z.1) both) (vars.at i x mid e)) (sym (ap (λ z. z.0) both)))
     plain_var_ok s false i v j h a c = let both : ◌≡◌ {A = Step × List Tok} (done (s, ([], 0)), i) (v, j) = cc in c (sym (ap (λ z. z.0) both)) (ap (λ z. z.1) both)
 
     inner_by_ok : {G : Type 0} (s : Vars) (q : Option Lexeme) (i : List Tok) (v : Step) (j : List Tok) → R (inner_by s q) i ≡ Ok (v, j)
-        → ((x : Tall VarTree) → VarRead i x j → v ≡ go (with_last s x) → G) → ((x : Tall StmtTree) → StmtRead i x j → v ≡ done (s, (x.0 ∷ [], x.1)) → G) → (v ≡ done (s, ([], 0)) → i ≡ j → G) → G
+        → ((x : WithHeight VarTree) → VarRead i x j → v ≡ go (with_last s x) → G) → ((x : WithHeight StmtTree) → StmtRead i x j → v ≡ done (s, (x.0 ∷ [], x.1)) → G) → (v ≡ done (s, ([], 0)) → i ≡ j → G) → G
     inner_by_ok s (Some (lexeme.Name k)) i v j h a b c = bind_ok (R known_name i) _ (v, j) h (λ n mid e g.
         let o = takes_first i (On n.0 (lexeme.Name n.1)) [] mid (known_name_sound most r sub i n mid e) in
         let first : i ≡ o.t ∷ mid = o.is ∙ ap (λ z. o.t ∷ z) o.others in
@@ -118,35 +102,35 @@ module _ (most r : ℕ) (sub : (k : Part) → Parser (Ans k)) where
         (λ x d is. b x (subst (λ z. StmtRead z x j) (sym first) d) is))
     inner_by_ok s q i v j h a b c = plain_var_ok s (starts_type q) i v j h a c
 
-    one_var : (s : Vars) (x : Tall VarTree) (i mid : List Tok) (y : Inner) (j : List Tok) → VarRead i x mid → InnerRead r (with_last s x) mid y j → InnerRead r s i y j
+    one_var : (s : Vars) (x : WithHeight VarTree) (i mid : List Tok) (y : Inner) (j : List Tok) → VarRead i x mid → InnerRead r (with_last s x) mid y j → InnerRead r s i y j
     one_var s x i mid y j t d = record {
       more = x.0 ∷ d.more;
       all = d.all ∙ append_assoc s.0 (x.0 ∷ []) d.more;
-      takes = subst (λ es. FitEach i es j) (sym (append_assoc (var_spelling x.0) (tokens.run var_spelling d.more) (tokens.run stmt_spelling y.1.0)))
-          (takes_append i (var_spelling x.0) (tokens.run var_spelling d.more ++ tokens.run stmt_spelling y.1.0) mid j t.takes d.takes);
+      takes = subst (λ es. FitEach i es j) (sym (append_assoc (var_spelling x.0) (tokens.each_spelling var_spelling d.more) (tokens.each_spelling stmt_spelling y.1.0)))
+          (takes_append i (var_spelling x.0) (tokens.each_spelling var_spelling d.more ++ tokens.each_spelling stmt_spelling y.1.0) mid j t.takes d.takes);
       vars = (t.is, d.vars);
       stmts = d.stmts;
-      tall = omega (arith, d.tall, t.tall);
+      height = omega (arith, d.height, t.height);
       low = λ l. d.low (omega (arith, l, t.low));
       stmts_tall = d.stmts_tall;
       stmts_low = d.stmts_low;
     }
 
-    one_stmt : (s : Vars) (x : Tall StmtTree) (i j : List Tok) → StmtRead i x j → InnerRead r s i (s, (x.0 ∷ [], x.1)) j
+    one_stmt : (s : Vars) (x : WithHeight StmtTree) (i j : List Tok) → StmtRead i x j → InnerRead r s i (s, (x.0 ∷ [], x.1)) j
     one_stmt s x i j t = record {
       more = [];
       all = sym (append-nil s.0);
       takes = takes_append i (stmt_spelling x.0) [] j j t.takes refl;
       vars = tt;
       stmts = (t.is, tt);
-      tall = omega arith;
+      height = omega arith;
       low = λ l. l;
-      stmts_tall = omega (arith, t.tall);
+      stmts_tall = omega (arith, t.height);
       stmts_low = t.low;
     }
 
     no_more : (s : Vars) (i : List Tok) → InnerRead r s i (s, ([], 0)) i
-    no_more s i = record { more = []; all = sym (append-nil s.0); takes = refl; vars = tt; stmts = tt; tall = omega arith; low = λ l. l; stmts_tall = refl; stmts_low = omega arith }
+    no_more s i = record { more = []; all = sym (append-nil s.0); takes = refl; vars = tt; stmts = tt; height = omega arith; low = λ l. l; stmts_tall = refl; stmts_low = omega arith }
 
     turns_sound : (n : ℕ) (s : Vars) (i : List Tok) (y : Inner × List Tok) → turns n step s i ≡ Ok y → InnerRead r s i y.0 y.1
     turns_sound zero s i y h = absurd (cc)
@@ -164,6 +148,6 @@ module _ (most r : ℕ) (sub : (k : Part) → Parser (Ans k)) where
     unfolding inner
     inner_sound i y j h = turns_sound most ([], 0) i (y, j) h
 
-    pub stmts_on_sound : (first : Tall (List StmtTree)) (i : List Tok) (y : Tall (List StmtTree)) (j : List Tok) → R (stmts_on first) i ≡ Ok (y, j) → Behind (λ xs. tokens.run stmt_spelling xs ++ word w.End ∷ []) (Each IsStmt) stmt_height r first i y j
+    pub stmts_on_sound : (first : WithHeight (List StmtTree)) (i : List Tok) (y : WithHeight (List StmtTree)) (j : List Tok) → R (stmts_on first) i ≡ Ok (y, j) → Behind (λ xs. tokens.each_spelling stmt_spelling xs ++ word w.End ∷ []) (Each IsStmt) stmt_height r first i y j
     unfolding stmts_on
     stmts_on_sound first i y j h = until_turns_sound most r sub (call a_stmt) stmt_spelling IsStmt stmt_height (f.Word w.End) r stmts most first i (y, j) h

@@ -13,11 +13,10 @@ use Rattle.svr_tree.specs.DeclTree.{TypeTree, ClassTree, VarTree}
 use Rattle.svr_tree.specs.StmtTree.{StmtTree}
 use Rattle.svr_tree.specs.ScriptTree.{UnitTree, ScriptTree}
 use Rattle.svr_tree.specs.ScriptGrammar.{last_word}
+use Rattle.svr_reader.specs.Outcomes.{Turn, go, done, Parser}
 use Rattle.svr_reader.specs.declared.fixed.Fixed.TheVariants as f
-use Rattle.svr_reader.specs.Program.{Turn, go, done, Program, pure, refuse, peek, take, call, loop, Parser, run}
-use Rattle.svr_reader.specs.Steps.{expect}
-use Rattle.svr_reader.specs.Lists.{◌>>=◌, ◌>>◌, Tall, with_last, led, until_step, until}
-use Rattle.svr_expr.specs.ExprRules.{known_name, name}
+use Rattle.svr_reader.specs.Program.{Program, pure, refuse, peek, take, call, loop, run, expect, known_name}
+use Rattle.svr_reader.specs.Lists.{◌>>=◌, ◌>>◌, WithHeight, with_last, until_step, until, name, parens, name_behind}
 use Rattle.svr_decl.specs.DeclRules.{typedef, class, var, var_on, starts_type}
 use Rattle.svr_stmt.specs.StmtRules.{stmt, stmt_on}
 
@@ -33,15 +32,15 @@ pub data Part : Type 0 where
   stmt_of : ℕ × NameKind → Part
 
 abbrev pub Ans : Part → Type 0
-Ans a_typedef = Tall TypeTree
-Ans a_class = Tall ClassTree
-Ans a_var = Tall VarTree
-Ans (var_of n) = Tall VarTree
-Ans a_stmt = Tall StmtTree
-Ans (stmt_of n) = Tall StmtTree
+Ans a_typedef = WithHeight TypeTree
+Ans a_class = WithHeight ClassTree
+Ans a_var = WithHeight VarTree
+Ans (var_of n) = WithHeight VarTree
+Ans a_stmt = WithHeight StmtTree
+Ans (stmt_of n) = WithHeight StmtTree
 
-abbrev pub Reader : Type 0 → Type 1
-Reader A = Program Part Ans A
+abbrev pub Rule : Type 0 → Type 1
+Rule A = Program Part Ans A
 
 -- ---- types and classes
 
@@ -50,16 +49,16 @@ pub record Tops : Type 0 where
   pub classes : List ClassTree
   pub order : List Top
 
-abbrev pub no_tops : Tall Tops
+abbrev pub no_tops : WithHeight Tops
 no_tops = (record { types = []; classes = []; order = [] }, 0)
 
-abbrev pub with_type : Tall Tops → Tall TypeTree → Tall Tops
+abbrev pub with_type : WithHeight Tops → WithHeight TypeTree → WithHeight Tops
 with_type s x = (record { types = s.0.types ++ x.0 ∷ []; classes = s.0.classes; order = s.0.order ++ OfType ∷ [] }, max s.1 x.1)
 
-abbrev pub with_class : Tall Tops → Tall ClassTree → Tall Tops
+abbrev pub with_class : WithHeight Tops → WithHeight ClassTree → WithHeight Tops
 with_class s x = (record { types = s.0.types; classes = s.0.classes ++ x.0 ∷ []; order = s.0.order ++ OfClass ∷ [] }, max s.1 x.1)
 
-abbrev pub top_by : Tall Tops → Option Lexeme → Reader (Turn (Tall Tops) (Tall Tops))
+abbrev pub top_by : WithHeight Tops → Option Lexeme → Rule (Turn (WithHeight Tops) (WithHeight Tops))
 top_by s (Some (lexeme.Word w.TypeDef)) = do
   x ← call a_typedef
   pure (go (with_type s x))
@@ -68,38 +67,28 @@ top_by s (Some (lexeme.Word w.Class)) = do
   pure (go (with_class s x))
 top_by s _ = pure (done s)
 
-abbrev pub top_step : Tall Tops → Reader (Turn (Tall Tops) (Tall Tops))
+abbrev pub top_step : WithHeight Tops → Rule (Turn (WithHeight Tops) (WithHeight Tops))
 top_step s = peek >>= top_by s
 
 -- { typedef | class }
-unfoldable pub tops : Reader (Tall Tops)
+unfoldable pub tops : Rule (WithHeight Tops)
 tops = loop top_step no_tops
 
 -- ---- module, program
 
-abbrev pub kind_by : Option Lexeme → Reader UnitKind
+abbrev pub kind_by : Option Lexeme → Rule UnitKind
 kind_by (Some (lexeme.Word w.Module)) = take >> pure unit_kind.Module
 kind_by (Some (lexeme.Word w.Program)) = take >> pure unit_kind.Program
 kind_by _ = refuse
 
-unfoldable pub kind : Reader UnitKind
+unfoldable pub kind : Rule UnitKind
 kind = peek >>= kind_by
 
--- [ "(" ")" ]
-unfoldable pub parens : Reader Bool
-parens = led (f.Mark m.OpenParen) (expect (f.Mark m.CloseParen) >> pure true) (pure false)
-
--- [ ":" NAME ]
-unfoldable pub label : Reader (Option ℕ)
-label = led (f.Mark m.Colon) (do
-  n ← name
-  pure (Some n)) (pure None)
-
 abbrev pub Inner : Type 0
-Inner = Tall (List VarTree) × Tall (List StmtTree)
+Inner = WithHeight (List VarTree) × WithHeight (List StmtTree)
 
 -- behind a name: a second name belongs to a variable, anything else to a statement
-abbrev pub named_by : Tall (List VarTree) → ℕ × NameKind → Option Lexeme → Reader (Turn (Tall (List VarTree)) Inner)
+abbrev pub named_by : WithHeight (List VarTree) → ℕ × NameKind → Option Lexeme → Rule (Turn (WithHeight (List VarTree)) Inner)
 named_by s n (Some (lexeme.Name k)) = do
   x ← call (var_of n.0)
   pure (go (with_last s x))
@@ -107,35 +96,35 @@ named_by s n _ = do
   x ← call (stmt_of n)
   pure (done (s, (x.0 ∷ [], x.1)))
 
-abbrev pub named_step : Tall (List VarTree) → ℕ × NameKind → Reader (Turn (Tall (List VarTree)) Inner)
+abbrev pub named_step : WithHeight (List VarTree) → ℕ × NameKind → Rule (Turn (WithHeight (List VarTree)) Inner)
 named_step s n = peek >>= named_by s n
 
 -- a variable that begins with the word of its type, or none
-abbrev pub choose_var : Tall (List VarTree) → Bool → Reader (Turn (Tall (List VarTree)) Inner)
+abbrev pub choose_var : WithHeight (List VarTree) → Bool → Rule (Turn (WithHeight (List VarTree)) Inner)
 choose_var s true = do
   x ← call a_var
   pure (go (with_last s x))
 choose_var s false = pure (done (s, ([], 0)))
 
-abbrev pub inner_by : Tall (List VarTree) → Option Lexeme → Reader (Turn (Tall (List VarTree)) Inner)
+abbrev pub inner_by : WithHeight (List VarTree) → Option Lexeme → Rule (Turn (WithHeight (List VarTree)) Inner)
 inner_by s (Some (lexeme.Name k)) = do
   n ← known_name
   named_step s n
 inner_by s q = choose_var s (starts_type q)
 
-abbrev pub inner_step : Tall (List VarTree) → Reader (Turn (Tall (List VarTree)) Inner)
+abbrev pub inner_step : WithHeight (List VarTree) → Rule (Turn (WithHeight (List VarTree)) Inner)
 inner_step s = peek >>= inner_by s
 
 -- the variables of an initial block, and its first statement where that begins with a name
-unfoldable pub inner : Reader Inner
+unfoldable pub inner : Rule Inner
 inner = loop inner_step ([], 0)
 
 -- the other statements, and `end`
-unfoldable pub stmts_on : Tall (List StmtTree) → Reader (Tall (List StmtTree))
+unfoldable pub stmts_on : WithHeight (List StmtTree) → Rule (WithHeight (List StmtTree))
 stmts_on first = loop (until_step (f.Word w.End) (call a_stmt)) first
 
 -- A.1.2: module_declaration, program_declaration
-unfoldable pub unit : Reader (Tall UnitTree)
+unfoldable pub unit : Rule (WithHeight UnitTree)
 unit = do
   k ← kind
   n ← name
@@ -146,11 +135,11 @@ unit = do
   i ← inner
   stmts ← stmts_on i.1
   expect (f.Word (last_word k))
-  l ← label
+  l ← name_behind (f.Mark m.Colon)
   pure (record { kind = k; name = n; parens = p; outer = outer.0; inner = i.0.0; stmts = stmts.0; label = l }, max (max outer.1 i.0.1) stmts.1)
 
 -- A.1.2: source_text
-unfoldable pub script_in : Reader (Tall ScriptTree)
+unfoldable pub script_in : Rule (WithHeight ScriptTree)
 script_in = do
   t ← tops
   u ← unit
@@ -165,9 +154,9 @@ part most r a_stmt = stmt most r
 part most r (stmt_of n) = stmt_on most r n
 
 -- what a program reads where its parts may be as high as the second number
-abbrev pub within : {A : Type 0} → ℕ → ℕ → Reader A → Parser A
+abbrev pub within : {A : Type 0} → ℕ → ℕ → Rule A → Parser A
 within most r p = run most r (part most r) p
 
 -- a script whose items, statements and expressions are no higher than the second number. No list is longer than the first
-unfoldable pub script : ℕ → ℕ → Parser (Tall ScriptTree)
+unfoldable pub script : ℕ → ℕ → Parser (WithHeight ScriptTree)
 script most r i = within most r script_in i

@@ -4,17 +4,18 @@ ghost use Rattle.std.specs.Prelude.{List, ◌+◌, ◌^◌, ◌<◌, ◌≤◌};
 ghost use Rattle.svr_tree.specs.DeclTree.{VarTree};
 ghost use Rattle.svr_tree.specs.StmtTree.{stmt_tree};
 ghost use Rattle.svr_reader.specs.Answers.{Gives};
-ghost use Rattle.svr_reader.specs.Calls.{cap, talls_by};
-ghost use Rattle.svr_reader.specs.Lists.{Tall};
+ghost use Rattle.svr_reader.specs.Calls.{cap, heights_view};
+ghost use Rattle.svr_reader.specs.Lists.{WithHeight};
 ghost use Rattle.svr_parse.specs.ScriptRules as rules;
 ghost use Rattle.svr_parse.specs.Found.{inner_of, inner_turn};
 
 use crate::reader::Reader;
 use sqlite_items::Items;
 use svr_decl::{starts_type, var, var_on};
-use svr_reader::{Cursor, Fixed, ReadFault, TURNS, until_on};
+use svr_reader::{Cursor, Fixed, ReadFault, until_on};
 use svr_stmt::{stmt, stmt_on};
-use svr_tree::{Lexeme, NameKind, Stmt, VarDecl, Word};
+use svr_token::{Lexeme, NameKind, Word};
+use svr_tree::{Stmt, VarDecl};
 
 /// The variables of a block, and its first statement where that begins with a name, with the greatest heights in them.
 #[derive(Drop)]
@@ -37,10 +38,10 @@ pub(crate) enum Found {
 
 impl Reader {
     // Behind a name: a second name belongs to a variable, anything else to a statement.
-    fn named(self, cursor: &mut Cursor<'_>, name: u32, kind: NameKind) -> Result<Found, ReadFault>
-        requires path { 2 ≤ self.room }
-        requires room { self.room + 1 < 2 ^ 64 }
-        ensures { (s : Tall (List VarTree)) → Gives (inner_turn s) (rules.within cap self.room (rules.named_step s (name, kind)) cursor.old) result cursor.new }
+    fn named(&self, cursor: &mut Cursor<'_>, name: u32, kind: NameKind) -> Result<Found, ReadFault>
+        requires path { 2 ≤ self.now.room }
+        requires room { self.now.room + 1 < 2 ^ 64 }
+        ensures { (s : WithHeight (List VarTree)) → Gives (inner_turn s) (rules.within cap self.now.room (rules.named_step s (name, kind)) cursor.old) result cursor.new }
     {
         match cursor.peek() {
             Some(Lexeme::Name(_)) => {
@@ -55,14 +56,14 @@ impl Reader {
     }
 
     // The next variable, or a statement where that begins with a name.
-    fn declared(self, cursor: &mut Cursor<'_>) -> Result<Found, ReadFault>
-        requires path { 2 ≤ self.room }
-        requires room { self.room + 1 < 2 ^ 64 }
-        ensures { (s : Tall (List VarTree)) → Gives (inner_turn s) (rules.within cap self.room (rules.inner_step s) cursor.old) result cursor.new }
+    fn declared(&self, cursor: &mut Cursor<'_>) -> Result<Found, ReadFault>
+        requires path { 2 ≤ self.now.room }
+        requires room { self.now.room + 1 < 2 ^ 64 }
+        ensures { (s : WithHeight (List VarTree)) → Gives (inner_turn s) (rules.within cap self.now.room (rules.inner_step s) cursor.old) result cursor.new }
     {
         match cursor.peek() {
             Some(Lexeme::Name(_)) => {
-                let (name, kind) = self.known_name(cursor)?;
+                let (name, kind) = cursor.known_name()?;
                 self.named(cursor, name, kind)
             }
             lexeme => {
@@ -77,14 +78,15 @@ impl Reader {
 
     /// The variables, and a first statement that begins with a name.
     #[tactic(auto, unfolding(crate::specs::ScriptRules::inner))]
-    pub fn inner(self, cursor: &mut Cursor<'_>) -> Result<Declared, ReadFault>
-        requires path { 2 ≤ self.room }
-        requires room { self.room + 1 < 2 ^ 64 }
-        ensures { Gives inner_of (rules.within cap self.room rules.inner cursor.old) result cursor.new }
+    pub fn inner(&self, cursor: &mut Cursor<'_>) -> Result<Declared, ReadFault>
+        requires path { 2 ≤ self.now.room }
+        requires room { self.now.room + 1 < 2 ^ 64 }
+        ensures { Gives inner_of (rules.within cap self.now.room rules.inner cursor.old) result cursor.new }
     {
         let mut vars = Items::new(self.alloc);
         let mut vars_height = 0usize;
-        for _turn in 0..TURNS {
+        let left = cursor.left();
+        for _turn in 0..left + 1 {
             match self.declared(cursor)? {
                 Found::Var(found, height) => {
                     vars.push(found)?;
@@ -110,20 +112,20 @@ impl Reader {
                 }
             }
         }
-        Err(ReadFault::NoMemory)
+        unreachable!()
     }
 
     /// The other statements, and `end`, behind first ones that were read before.
     #[tactic(auto, unfolding(crate::specs::ScriptRules::stmts_on))]
     pub fn stmts(
-        self,
+        &self,
         cursor: &mut Cursor<'_>,
         first: Items<Stmt>,
         first_height: usize,
     ) -> Result<(Items<Stmt>, usize), ReadFault>
-        requires path { 2 ≤ self.room }
-        requires room { self.room + 1 < 2 ^ 64 }
-        ensures { Gives (talls_by stmt_tree) (rules.within cap self.room (rules.stmts_on (talls_by stmt_tree (first, first_height))) cursor.old) result cursor.new }
+        requires path { 2 ≤ self.now.room }
+        requires room { self.now.room + 1 < 2 ^ 64 }
+        ensures { Gives (heights_view stmt_tree) (rules.within cap self.now.room (rules.stmts_on (heights_view stmt_tree (first, first_height))) cursor.old) result cursor.new }
     {
         until_on(
             cursor,

@@ -3,12 +3,12 @@
 
 mod block;
 mod fault;
+mod laws;
 mod parser;
 mod reader;
 mod script;
-#[cfg(test)]
-mod tests;
 mod tops;
 
 pub use fault::ParseError;
+pub use laws::{tokens_have_one_answer, tokens_have_one_tree};
 pub use parser::parse;

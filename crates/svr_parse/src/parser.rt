@@ -1,22 +1,22 @@
 // A script from its tokens.
 
-ghost use Rattle.std.specs.Prelude.{◌<◌, ◌^◌, length, IfOk, IfErr};
+ghost use Rattle.std.specs.Prelude.{◌≡◌, ◌⊎◌, ◌<◌, ◌^◌, length, IfOk, IfErr, MatchResult};
 ghost use Rattle.std.specs.List.{All};
 ghost use Rattle.svr_token.specs.declared.Lexeme.{Lexeme as LexemeType};
 ghost use Rattle.svr_token.specs.Tokens.{IsTokenOf};
-ghost use Rattle.svr_tree.specs.ScriptTree.{script_tree};
-ghost use Rattle.svr_parse.specs.Parse.{IsTreeOf, IsFaultOf};
+ghost use Rattle.svr_tree.specs.ScriptTree.{ScriptTree, script_tree};
+ghost use Rattle.svr_parse.specs.declared.fault.ParseError.{ParseError as ParseErrorType};
+ghost use Rattle.svr_parse.specs.Parse.{IsTreeOf, IsFaultOf, IsPlaceOf};
 
 use crate::fault::ParseError;
 use crate::reader::Reader;
 use std::alloc::Global;
+use svr_limits::HEIGHT_LIMIT;
 use svr_reader::{Cursor, ReadFault, lexemes};
-use svr_tree::{Script, Token};
+use svr_token::Token;
+use svr_tree::Script;
 
-/// The greatest height of a script.
-const HEIGHT_LIMIT: usize = 128;
-
-/// The script that the tokens of a text spell, within the limit of 128 on its height. The conditions are what the lexer says of its tokens.
+/// The script that the tokens of a text spell, within `HEIGHT_LIMIT`. The conditions are what the lexer says of its tokens.
 ///
 /// A fault is at the first token at which no such script goes on.
 pub fn parse(alloc: Global, text: &[u8], tokens: &[Token]) -> Result<Script, ParseError>
@@ -24,6 +24,10 @@ pub fn parse(alloc: Global, text: &[u8], tokens: &[Token]) -> Result<Script, Par
     requires few { length tokens.now < 2 ^ 32 }
     ensures tree { IfOk result (λ s. IsTreeOf text.now tokens.now (script_tree s)) }
     ensures fault { IfErr result (λ e. IsFaultOf text.now tokens.now e) }
+
+    // Want of memory aside, tokens that have a tree are answered by it, and any others by their fault.
+    ensures only_tree { (tree : ScriptTree) → IsTreeOf text.now tokens.now tree → MatchResult result (λ s. script_tree s ≡ tree) (λ e. e ≡ ParseError.NoMemory) }
+    ensures only_fault { (error : ParseErrorType) → IsPlaceOf text.now tokens.now error → MatchResult result (λ s. ⊥) (λ e. (e ≡ error) ⊎ (e ≡ ParseError.NoMemory)) }
 {
     let lexemes = lexemes(alloc, text, tokens)?;
     let mut cursor = Cursor::new(&lexemes);

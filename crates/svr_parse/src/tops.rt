@@ -2,16 +2,17 @@
 
 ghost use Rattle.std.specs.Prelude.{◌+◌, ◌^◌, ◌<◌};
 ghost use Rattle.svr_reader.specs.Answers.{Gives};
-ghost use Rattle.svr_reader.specs.Calls.{cap, tall_by};
-ghost use Rattle.svr_reader.specs.Lists.{Tall};
+ghost use Rattle.svr_reader.specs.Calls.{cap, height_view};
+ghost use Rattle.svr_reader.specs.Lists.{WithHeight};
 ghost use Rattle.svr_parse.specs.ScriptRules as rules;
 ghost use Rattle.svr_parse.specs.Found.{tops_tree, top_turn};
 
 use crate::reader::Reader;
 use sqlite_items::Items;
 use svr_decl::{class, typedef};
-use svr_reader::{Cursor, ReadFault, TURNS};
-use svr_tree::{ClassDecl, Lexeme, Top, TypeDecl, Word};
+use svr_reader::{Cursor, ReadFault};
+use svr_token::{Lexeme, Word};
+use svr_tree::{ClassDecl, Top, TypeDecl};
 
 /// Types and classes, and the order in which they stand.
 #[derive(Drop)]
@@ -32,9 +33,9 @@ pub(crate) enum FoundTop {
 
 impl Reader {
     // The next type or class.
-    fn top(self, cursor: &mut Cursor<'_>) -> Result<FoundTop, ReadFault>
-        requires { self.room + 1 < 2 ^ 64 }
-        ensures { (s : Tall rules.Tops) → Gives (top_turn s) (rules.within cap self.room (rules.top_step s) cursor.old) result cursor.new }
+    fn top(&self, cursor: &mut Cursor<'_>) -> Result<FoundTop, ReadFault>
+        requires { self.now.room + 1 < 2 ^ 64 }
+        ensures { (s : WithHeight rules.Tops) → Gives (top_turn s) (rules.within cap self.now.room (rules.top_step s) cursor.old) result cursor.new }
     {
         match cursor.peek() {
             Some(Lexeme::Word(Word::TypeDef)) => {
@@ -51,25 +52,26 @@ impl Reader {
 
     /// All types and classes before the module or program, and the greatest height in them.
     #[tactic(auto, unfolding(crate::specs::ScriptRules::tops))]
-    pub fn tops(self, cursor: &mut Cursor<'_>) -> Result<(Tops, usize), ReadFault>
-        requires { self.room + 1 < 2 ^ 64 }
-        ensures { Gives (tall_by tops_tree) (rules.within cap self.room rules.tops cursor.old) result cursor.new }
+    pub fn tops(&self, cursor: &mut Cursor<'_>) -> Result<(Tops, usize), ReadFault>
+        requires { self.now.room + 1 < 2 ^ 64 }
+        ensures { Gives (height_view tops_tree) (rules.within cap self.now.room rules.tops cursor.old) result cursor.new }
     {
         let mut types = Items::new(self.alloc);
         let mut classes = Items::new(self.alloc);
         let mut order = Items::new(self.alloc);
-        let mut tall = 0usize;
-        for _turn in 0..TURNS {
+        let mut highest = 0usize;
+        let left = cursor.left();
+        for _turn in 0..left + 1 {
             match self.top(cursor)? {
                 FoundTop::Type(found, height) => {
                     types.push(found)?;
                     order.push(Top::OfType)?;
-                    tall = tall.max(height);
+                    highest = highest.max(height);
                 }
                 FoundTop::Class(found, height) => {
                     classes.push(found)?;
                     order.push(Top::OfClass)?;
-                    tall = tall.max(height);
+                    highest = highest.max(height);
                 }
                 FoundTop::Unit => {
                     let found = Tops {
@@ -77,10 +79,10 @@ impl Reader {
                         classes,
                         order,
                     };
-                    return Ok((found, tall));
+                    return Ok((found, highest));
                 }
             }
         }
-        Err(ReadFault::NoMemory)
+        unreachable!()
     }
 }

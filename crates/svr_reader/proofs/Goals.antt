@@ -2,7 +2,8 @@
 use Rattle.std.proofs.Common.{◌≡◌, ℕ, zero, suc, ◌<◌, ◌≤◌, List, [], ◌++◌, length, Option, Ok, ◌⊎◌, inl, inr, refl, subst, arith}
 use Rattle.svr_token.specs.declared.Lexeme.{Lexeme}
 use Rattle.svr_tree.specs.Tokens.{Tok}
-use Rattle.svr_reader.specs.Program.{Turn, Program, pure, bind, refuse, peek, here, take, enter, loop, Outcome, Parser, lexeme_at, number_at, run}
+use Rattle.svr_reader.specs.Outcomes.{Turn, Outcome, Parser, lexeme_at, number_at}
+use Rattle.svr_reader.specs.Program.{Program, pure, bind, refuse, peek, here, take, enter, loop, run}
 use Rattle.svr_reader.proofs.Steps.{bind_ok}
 use Rattle.svr_reader.proofs.Local.{IsLocal, local_run}
 use Rattle.svr_reader.proofs.Live.{AnyToken, Later, Finishes, Alive, Settled, Settles, Heads, Consumes, alive_bind, alive_pure, later_bind, later_refuse, later_take, later_peek, later_here, later_enter, settles_bind, heads_bind, settles_take, take_consumes, settles_enter, enter_consumes, settles_peek, settles_here, ok_shorter}

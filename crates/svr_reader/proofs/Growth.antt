@@ -1,23 +1,28 @@
 -- What more room and more turns change.
-use Rattle.std.proofs.Common.{◌≡◌, ℕ, zero, suc, ◌+◌, ◌<◌, ◌≤◌, Bool, true, false, List, [], ◌∷◌, length, Ok, Err, cond, refl, sym, ◌∙◌, ap, subst, arith, length-append}
+use Rattle.std.proofs.Common.{◌≡◌, ℕ, zero, suc, ◌+◌, ◌<◌, ◌≤◌, Bool, true, false, List, [], ◌∷◌, length, Option, Some, Ok, Err, cond, refl, sym, ◌∙◌, ap, subst, arith, length-append}
+use Rattle.svr_token.specs.declared.Lexeme.{Lexeme}
+use Rattle.svr_token.specs.declared.Lexeme.TheVariants as lexeme
 use Rattle.std.specs.Prelude.{nat_le, ◌==◌}
 use Rattle.std.proofs.lemmas.Bool.Decides.{nat_tests}
-use Rattle.svr_reader.specs.declared.fault.ReadFault.TheVariants.{NoMemory, Unexpected, TooDeep}
 use Rattle.svr_tree.specs.Tokens.{Tok}
-use Rattle.svr_reader.specs.Program.{Turn, go, done, Program, pure, bind, refuse, peek, here, take, enter, call, loop, Outcome, Parser, and_then, taken, entered, turned, turns, run}
+use Rattle.svr_reader.specs.Outcomes.{Unexpected, TooDeep, Stuck, Outcome, Parser, and_then, lexeme_at, taken, entered, Turn, go, done, turned, turns}
+use Rattle.svr_reader.specs.declared.fixed.Fixed.{Fixed}
+use Rattle.svr_reader.specs.Steps.{sees, eaten, expected, named_by, named}
+use Rattle.svr_reader.specs.Program.{Program, pure, bind, refuse, peek, here, take, eat, expect, known_name, either, enter, call, loop, run}
+use Rattle.svr_reader.proofs.Steps.{when}
 use Rattle.svr_reader.proofs.Local.{IsLocal, StaysFor, Stays, local_run, local_turns}
 
 -- fewer than n tokens are left
 abbrev pub Past : {A : Type 0} → ℕ → Outcome A → Type 0
 Past n (Ok y) = length y.1 < n
-Past n (Err NoMemory) = Unit {0}
+Past n (Err Stuck) = Unit {0}
 Past n (Err (Unexpected k)) = k < n
 Past n (Err (TooDeep k)) = k < n
 
 -- what an outcome becomes: with the same room, or with more
 abbrev pub Grown : {A : Type 0} → Bool → Outcome A → Outcome A → Type 0
 Grown wider (Ok y) o = o ≡ Ok y
-Grown wider (Err NoMemory) o = Unit {0}
+Grown wider (Err Stuck) o = Unit {0}
 Grown wider (Err (Unexpected n)) o = o ≡ Err (Unexpected n)
 Grown true (Err (TooDeep n)) o = Past n o
 Grown false (Err (TooDeep n)) o = o ≡ Err (TooDeep n)
@@ -35,19 +40,19 @@ shorter p i j o s = let e : length i ≡ length s.front + length j = ap length s
 
 pub past_by : {B : Type 0} (p : Parser B) (i : List Tok) (n : ℕ) (o : Outcome B) → length i < n → StaysFor p i o → Past n o
 past_by p i n (Ok y) h s = omega (arith, h, shorter p i y.1 _ s)
-past_by p i n (Err NoMemory) h s = tt
+past_by p i n (Err Stuck) h s = tt
 past_by p i n (Err (Unexpected k)) h s = omega (arith, h, s.1, shorter p i s.0 _ s.2)
 past_by p i n (Err (TooDeep k)) h s = omega (arith, h, s.1, shorter p i s.0 _ s.2)
 
 pub past_then : {A B : Type 0} (n : ℕ) (f : A → Parser B) → ((x : A) → IsLocal (f x)) → (o : Outcome A) → Past n o → Past n (and_then o f)
 past_then n f l (Ok y) h = past_by (f y.0) y.1 n (f y.0 y.1) h ((l y.0).at y.1)
-past_then n f l (Err NoMemory) h = tt
+past_then n f l (Err Stuck) h = tt
 past_then n f l (Err (Unexpected k)) h = h
 past_then n f l (Err (TooDeep k)) h = h
 
 grown_then : {A B : Type 0} (wider : Bool) (f g : A → Parser B) → ((x : A) → IsLocal (g x)) → ((x : A) → Grows wider (f x) (g x)) → (o o2 : Outcome A) → Grown wider o o2 → Grown wider (and_then o f) (and_then o2 g)
 grown_then wider f g l h (Ok y) o2 e = subst (λ v. Grown wider (f y.0 y.1) (and_then v g)) (sym e) ((h y.0).at y.1)
-grown_then wider f g l h (Err NoMemory) o2 e = tt
+grown_then wider f g l h (Err Stuck) o2 e = tt
 grown_then wider f g l h (Err (Unexpected n)) o2 e = ap (λ v. and_then v g) e
 grown_then true f g l h (Err (TooDeep n)) o2 e = past_then n g l o2 e
 grown_then false f g l h (Err (TooDeep n)) o2 e = ap (λ v. and_then v g) e
@@ -66,7 +71,7 @@ rooms_le true r r2 h = omega arith
 rooms_le false r r2 h = omega arith
 
 enter_by : (wider : Bool) (r r2 h : ℕ) (t : Tok) (i : List Tok) (a b : Bool) → Rooms wider r r2 → nat_le h r ≡ a → (h == suc r) ≡ b
-    → Grown wider (cond a (Ok (t.at, i)) (cond b (Err (TooDeep (suc (length i)))) (Err NoMemory))) (entered r2 h (t ∷ i))
+    → Grown wider (cond a (Ok (t.at, i)) (cond b (Err (TooDeep (suc (length i)))) (Err Stuck))) (entered r2 h (t ∷ i))
 enter_by wider r r2 h t i true b m e d = rw (le_more h r r2 e (rooms_le wider r r2 m)) refl
 enter_by true r r2 h t i false true m e d = rw (le_next h r r2 d (omega arith)) (omega arith)
 enter_by false r r2 h t i false true m e d = rw (m, e, d) refl
@@ -96,18 +101,47 @@ grows_turns wider (suc n) (suc n2) p q l m h s = grows_bind wider (p s) (q s) (t
 
 grows_refl : {A : Type 0} (wider : Bool) (o : Outcome A) → ((n : ℕ) → o ≡ Err (TooDeep n) → ⊥) → Grown wider o o
 grows_refl wider (Ok y) h = refl
-grows_refl wider (Err NoMemory) h = tt
+grows_refl wider (Err Stuck) h = tt
 grows_refl wider (Err (Unexpected n)) h = refl
 grows_refl wider (Err (TooDeep n)) h = absurd (h n refl)
 
-module _ {K : Type 0} {Ans : K → Type 0} (wider : Bool) (n n2 r r2 : ℕ) (sub sub2 : (k : K) → Parser (Ans k)) (more : n ≤ n2) (rooms : Rooms wider r r2) (l : (k : K) → IsLocal (sub2 k)) (h : (k : K) → Grows wider (sub k) (sub2 k)) where
+-- a parser that never wants room
+grows_same : {A : Type 0} (wider : Bool) (p : Parser A) → ((i : List Tok) (n : ℕ) → p i ≡ Err (TooDeep n) → ⊥) → Grows wider p p
+grows_same wider p h = record { at = λ i. grows_refl wider (p i) (h i) }
+
+taken_shallow : {A : Type 0} (f : ℕ → A) (i : List Tok) (n : ℕ) → ◌≡◌ {A = Outcome A} (and_then (taken i) (λ a j. Ok (f a, j))) (Err (TooDeep n)) → ⊥
+taken_shallow f [] n h = absurd (cc)
+taken_shallow f (t ∷ i) n h = absurd (cc)
+
+eaten_shallow : (k : Fixed) (i : List Tok) (n : ℕ) → eaten k i ≡ Err (TooDeep n) → ⊥
+unfolding eaten
+eaten_shallow k i n h = when (sees k i) (and_then (taken i) (λ _ j. Ok (true, j))) (Ok (false, i)) (Err (TooDeep n)) h (λ _ e. taken_shallow (λ _. true) i n e) (λ _ e. absurd (cc))
+
+expected_shallow : (k : Fixed) (i : List Tok) (n : ℕ) → expected k i ≡ Err (TooDeep n) → ⊥
+unfolding expected
+expected_shallow k i n h = when (sees k i) (and_then (taken i) (λ _ j. Ok (tt, j))) (Err (Unexpected (length i))) (Err (TooDeep n)) h (λ _ e. taken_shallow (λ _. tt {0}) i n e) (λ _ e. absurd (cc))
+
+named_by_shallow : (q : Option Lexeme) (i : List Tok) (n : ℕ) → named_by q i ≡ Err (TooDeep n) → ⊥
+named_by_shallow (Some (lexeme.Name k)) i n h = taken_shallow (λ a. (a, k)) i n h
+named_by_shallow _ i n h = absurd (cc)
+
+named_shallow : (i : List Tok) (n : ℕ) → named i ≡ Err (TooDeep n) → ⊥
+unfolding named
+named_shallow i n h = named_by_shallow (lexeme_at i) i n h
+
+module _ {K : Type 0} {Ans : K → Type 0} (wider : Bool) (n n2 r r2 : ℕ) (sub sub2 : (k : K) → Parser (Ans k)) (more : n ≤ n2) (rooms : Rooms wider r r2) (ls : (k : K) → IsLocal (sub2 k)) (h : (k : K) → Grows wider (sub k) (sub2 k)) where
   pub grows_run : {A : Type 0} (p : Program K Ans A) → Grows wider (run n r sub p) (run n2 r2 sub2 p)
   grows_run (pure a) = record { at = λ i. refl }
-  grows_run (bind p f) = grows_bind wider (run n r sub p) (run n2 r2 sub2 p) (λ x. run n r sub (f x)) (λ x. run n2 r2 sub2 (f x)) (grows_run p) (λ x. local_run n2 r2 sub2 l (f x)) (λ x. grows_run (f x))
+  grows_run (bind p f) = grows_bind wider (run n r sub p) (run n2 r2 sub2 p) (λ x. run n r sub (f x)) (λ x. run n2 r2 sub2 (f x)) (grows_run p) (λ x. local_run n2 r2 sub2 ls (f x)) (λ x. grows_run (f x))
   grows_run refuse = record { at = λ i. refl }
   grows_run peek = record { at = λ i. refl }
   grows_run here = record { at = λ i. refl }
   grows_run take = record { at = taken_grown wider }
+  grows_run (eat k) = grows_same wider (eaten k) (eaten_shallow k)
+  grows_run (expect k) = grows_same wider (expected k) (expected_shallow k)
+  grows_run known_name = grows_same wider named named_shallow
+  grows_run (either true p q) = grows_run p
+  grows_run (either false p q) = grows_run q
   grows_run (enter h1) = record { at = enter_at wider r r2 h1 rooms }
   grows_run (call k) = h k
-  grows_run (loop body s) = grows_turns wider n n2 (λ s2. run n r sub (body s2)) (λ s2. run n2 r2 sub2 (body s2)) (λ s2. local_run n2 r2 sub2 l (body s2)) more (λ s2. grows_run (body s2)) s
+  grows_run (loop body s) = grows_turns wider n n2 (λ s2. run n r sub (body s2)) (λ s2. run n2 r2 sub2 (body s2)) (λ s2. local_run n2 r2 sub2 ls (body s2)) more (λ s2. grows_run (body s2)) s

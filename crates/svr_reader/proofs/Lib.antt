@@ -13,6 +13,7 @@ pub mod Lists
 pub mod LiveLists
 pub mod Fronts
 pub mod Places
+pub mod Plainly
 pub mod Tokens
 pub mod Spelled
 pub mod Calls

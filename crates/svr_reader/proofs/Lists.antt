@@ -6,38 +6,39 @@ use Rattle.svr_token.specs.declared.Mark.TheVariants as m
 use Rattle.svr_tree.specs.Tokens as tokens
 use Rattle.svr_tree.specs.Tokens.{Tok, Entry, Any, FitEach, followed, listed, Each, OneOrMore}
 use Rattle.svr_tree.specs.DeclGrammar.{greatest}
+use Rattle.svr_reader.specs.Outcomes.{Turn, go, done, Parser, lexeme_at, turns}
 use Rattle.svr_reader.specs.declared.fixed.Fixed.{Fixed}
 use Rattle.svr_reader.specs.declared.fixed.Fixed.TheVariants as f
-use Rattle.svr_reader.specs.Program.{Turn, go, done, Program, pure, bind, Parser, lexeme_at, turns, run}
-use Rattle.svr_reader.specs.Steps.{fixed_lexeme, is_fixed, sees, eat}
-use Rattle.svr_reader.specs.Lists.{Tall, with_last, list_step, listing_on, listing, until_step, until}
+use Rattle.svr_reader.specs.Program.{Program, pure, bind, run, eat}
+use Rattle.svr_reader.specs.Steps.{fixed_lexeme, is_fixed, sees}
+use Rattle.svr_reader.specs.Lists.{WithHeight, with_last, list_step, listing_on, listing, until_step, until}
 use Rattle.svr_reader.proofs.Steps.{bind_ok, bind_is, yields, turn_ok, when, takes_append, takes_parts, takes_length, lexeme_of, Saw, eat_ok, eats, eat_not, led_ok, led_takes, led_no}
 use Rattle.svr_reader.proofs.Live.{AnyToken}
 use Rattle.svr_reader.proofs.Layers.{ReadAs, IsSound, IsComplete}
 
 -- elements behind those of s
-pub record Behind {X : Type 0} (spell : List X → List Entry) (Are : List X → Type 0) (high : X → ℕ) (r : ℕ) (s : Tall (List X)) (i : List Tok) (y : Tall (List X)) (j : List Tok) : Type 0 where
+pub record Behind {X : Type 0} (spell : List X → List Entry) (Are : List X → Type 0) (high : X → ℕ) (r : ℕ) (s : WithHeight (List X)) (i : List Tok) (y : WithHeight (List X)) (j : List Tok) : Type 0 where
   pub more : List X
   pub all : y.0 ≡ s.0 ++ more
   pub takes : FitEach i (spell more) j
   pub are : Are more
-  pub tall : y.1 ≡ max s.1 (greatest high more)
+  pub height : y.1 ≡ max s.1 (greatest high more)
   pub low : s.1 ≤ r → y.1 ≤ r
 
-pub none_behind : {X : Type 0} {spell : List X → List Entry} {Are : List X → Type 0} {high : X → ℕ} {r : ℕ} {i : List Tok} {y : Tall (List X)} {j : List Tok} → Behind spell Are high r ([], 0) i y j → ReadAs spell Are (greatest high) r i y j
+pub none_behind : {X : Type 0} {spell : List X → List Entry} {Are : List X → Type 0} {high : X → ℕ} {r : ℕ} {i : List Tok} {y : WithHeight (List X)} {j : List Tok} → Behind spell Are high r ([], 0) i y j → ReadAs spell Are (greatest high) r i y j
 none_behind {spell = spell} {Are = Are} {high = high} {i = i} {y = y} {j = j} d = record {
   takes = subst (λ v. FitEach i (spell v) j) (sym d.all) d.takes;
   is = subst Are (sym d.all) d.are;
-  tall = omega (arith, d.tall, ap (greatest high) d.all);
+  height = omega (arith, d.height, ap (greatest high) d.all);
   low = d.low (omega arith);
 }
 
-module _ {K : Type 0} {Ans : K → Type 0} (most r : ℕ) (sub : (k : K) → Parser (Ans k)) {X : Type 0} (p : Program K Ans (Tall X)) (spell : X → List Entry) (Is : X → Type 0) (high : X → ℕ) where
+module _ {K : Type 0} {Ans : K → Type 0} (most r : ℕ) (sub : (k : K) → Parser (Ans k)) {X : Type 0} (p : Program K Ans (WithHeight X)) (spell : X → List Entry) (Is : X → Type 0) (high : X → ℕ) where
   abbrev R : {A : Type 0} → Program K Ans A → Parser A
   R q = run most r sub q
 
   abbrev Lists : Type 0
-  Lists = Tall (List X)
+  Lists = WithHeight (List X)
 
   abbrev comma : Fixed
   comma = f.Mark m.Comma
@@ -45,8 +46,8 @@ module _ {K : Type 0} {Ans : K → Type 0} (most r : ℕ) (sub : (k : K) → Par
   -- ---- x { "," x }
 
   list_step_ok : {G : Type 0} (b : ℕ) → IsSound spell Is high b (R p) → (s : Lists) (i : List Tok) (v : Turn Lists Lists) (j : List Tok) → R (list_step p s) i ≡ Ok (v, j)
-      → ((x : Tall X) (mid : List Tok) → ReadAs spell Is high b i x mid → FitEach mid (Any (fixed_lexeme comma) ∷ []) j → v ≡ go (with_last s x) → G)
-      → ((x : Tall X) → ReadAs spell Is high b i x j → v ≡ done (with_last s x) → G) → G
+      → ((x : WithHeight X) (mid : List Tok) → ReadAs spell Is high b i x mid → FitEach mid (Any (fixed_lexeme comma) ∷ []) j → v ≡ go (with_last s x) → G)
+      → ((x : WithHeight X) → ReadAs spell Is high b i x j → v ≡ done (with_last s x) → G) → G
   unfolding list_step
   list_step_ok b ok s i v j h g d = bind_ok (R p i) _ (v, j) h (λ x mid e k. bind_ok (R (eat comma) mid) _ (v, j) k (λ more j2 e2 k2.
       let t = ok.at i x mid e in
@@ -76,7 +77,7 @@ module _ {K : Type 0} {Ans : K → Type 0} (most r : ℕ) (sub : (k : K) → Par
         all = d.all ∙ append_assoc s.0 (x.0 ∷ []) d.more;
         takes = join_takes x.0 d.more i mid j y.1 t.takes eaten d.are d.takes;
         are = (t.is, each_of d.more d.are);
-        tall = omega (arith, d.tall, t.tall);
+        height = omega (arith, d.height, t.height);
         low = λ low. d.low (omega (arith, low, t.low));
       })
       (λ x t is. absurd (cc)))
@@ -88,7 +89,7 @@ module _ {K : Type 0} {Ans : K → Type 0} (most r : ℕ) (sub : (k : K) → Par
         all = refl;
         takes = takes_append i (spell x.0) [] j j t.takes refl;
         are = (t.is, tt);
-        tall = omega (arith, t.tall);
+        height = omega (arith, t.height);
         low = λ low. omega (arith, low, t.low);
       }))))
 
@@ -144,10 +145,10 @@ module _ {K : Type 0} {Ans : K → Type 0} (most r : ℕ) (sub : (k : K) → Par
 
   module _ (k : Fixed) where
     abbrev ended : List X → List Entry
-    ended xs = tokens.run spell xs ++ Any (fixed_lexeme k) ∷ []
+    ended xs = tokens.each_spelling spell xs ++ Any (fixed_lexeme k) ∷ []
 
     until_step_ok : {G : Type 0} (b : ℕ) → IsSound spell Is high b (R p) → (s : Lists) (i : List Tok) (v : Turn Lists Lists) (j : List Tok) → R (until_step k p s) i ≡ Ok (v, j)
-        → ((x : Tall X) → ReadAs spell Is high b i x j → v ≡ go (with_last s x) → G) → (FitEach i (Any (fixed_lexeme k) ∷ []) j → v ≡ done s → G) → G
+        → ((x : WithHeight X) → ReadAs spell Is high b i x j → v ≡ go (with_last s x) → G) → (FitEach i (Any (fixed_lexeme k) ∷ []) j → v ≡ done s → G) → G
     unfolding until_step
     until_step_ok b ok s i v j h g d = led_ok most r sub k (pure (done s)) (bind p (λ x. pure (go (with_last s x)))) i (v, j) h
         (λ mid t e. let both : ◌≡◌ {A = Turn Lists Lists × List Tok} (done s, mid) (v, j) = cc in d (subst (λ z. FitEach i (Any (fixed_lexeme k) ∷ []) z) (ap (λ z. z.1) both) t) (sym (ap (λ z. z.0) both)))
@@ -163,9 +164,9 @@ module _ {K : Type 0} {Ans : K → Type 0} (most r : ℕ) (sub : (k : K) → Par
         record {
           more = x.0 ∷ d.more;
           all = d.all ∙ append_assoc s.0 (x.0 ∷ []) d.more;
-          takes = subst (λ es. FitEach i es y.1) (sym (append_assoc (spell x.0) (tokens.run spell d.more) (Any (fixed_lexeme k) ∷ []))) (takes_append i (spell x.0) (ended d.more) j y.1 t.takes d.takes);
+          takes = subst (λ es. FitEach i es y.1) (sym (append_assoc (spell x.0) (tokens.each_spelling spell d.more) (Any (fixed_lexeme k) ∷ []))) (takes_append i (spell x.0) (ended d.more) j y.1 t.takes d.takes);
           are = (t.is, d.are);
-          tall = omega (arith, d.tall, t.tall);
+          height = omega (arith, d.height, t.height);
           low = λ low. d.low (omega (arith, low, t.low));
         })
         (λ t is. absurd (cc)))
@@ -177,7 +178,7 @@ module _ {K : Type 0} {Ans : K → Type 0} (most r : ℕ) (sub : (k : K) → Par
           all = sym (append-nil s.0);
           takes = t;
           are = tt;
-          tall = omega arith;
+          height = omega arith;
           low = λ low. low;
         }))))
 
@@ -189,19 +190,19 @@ module _ {K : Type 0} {Ans : K → Type 0} (most r : ℕ) (sub : (k : K) → Par
         (begins : (x : X) (i rest : List Tok) → Is x → FitEach i (spell x) rest → D (lexeme_at i) × (sees k i ≡ false)) (dk : D (Some (fixed_lexeme k))) where
       follows : (xs : List X) (i rest : List Tok) → Each Is xs → FitEach i (ended xs) rest → D (lexeme_at i)
       follows [] i rest o h = subst D (sym (lexeme_of i rest (fixed_lexeme k) [] h)) dk
-      follows (x ∷ xs) i rest o h = let q = takes_parts i (spell x) (ended xs) rest (subst (λ es. FitEach i es rest) (append_assoc (spell x) (tokens.run spell xs) (Any (fixed_lexeme k) ∷ [])) h) in (begins x i q.0 o.0 q.1).0
+      follows (x ∷ xs) i rest o h = let q = takes_parts i (spell x) (ended xs) rest (subst (λ es. FitEach i es rest) (append_assoc (spell x) (tokens.each_spelling spell xs) (Any (fixed_lexeme k) ∷ [])) h) in (begins x i q.0 o.0 q.1).0
 
       pub until_turns_complete : (n : ℕ) (s : Lists) (xs : List X) (i rest : List Tok) → length i ≤ n + length rest → length i ≤ most + length rest → Each Is xs → greatest high xs ≤ b
           → FitEach i (ended xs) rest → turns n (λ s2. R (until_step k p s2)) s i ≡ Ok ((s.0 ++ xs, max s.1 (greatest high xs)), rest)
       unfolding until_step
       until_turns_complete zero s [] i rest full few o low h = absurd (omega (arith, full, takes_length i (Any (fixed_lexeme k) ∷ []) rest h))
-      until_turns_complete zero s (x ∷ xs) i rest full few o low h = absurd (omega (arith, full, fills x o.0, takes_length i (ended (x ∷ xs)) rest h, length-append (spell x ++ tokens.run spell xs) (Any (fixed_lexeme k) ∷ [])))
+      until_turns_complete zero s (x ∷ xs) i rest full few o low h = absurd (omega (arith, full, fills x o.0, takes_length i (ended (x ∷ xs)) rest h, length-append (spell x ++ tokens.each_spelling spell xs) (Any (fixed_lexeme k) ∷ [])))
       until_turns_complete (suc n) s [] i rest full few o low h =
           bind_is (R (until_step k p s) i) _ (done s) rest _
           (led_takes most r sub k (pure (done s)) (bind p (λ x. pure (go (with_last s x)))) i rest h)
           (let tallest : s.1 ≡ max s.1 0 = omega arith in ap (λ v. Ok ((v, s.1), rest)) (sym (append-nil s.0)) ∙ ap (λ v. Ok ((s.0 ++ [], v), rest)) tallest)
       until_turns_complete (suc n) s (x ∷ xs) i rest full few o low h =
-          let q = takes_parts i (spell x) (ended xs) rest (subst (λ es. FitEach i es rest) (append_assoc (spell x) (tokens.run spell xs) (Any (fixed_lexeme k) ∷ [])) h) in
+          let q = takes_parts i (spell x) (ended xs) rest (subst (λ es. FitEach i es rest) (append_assoc (spell x) (tokens.each_spelling spell xs) (Any (fixed_lexeme k) ∷ [])) h) in
           let long = takes_length i (spell x) q.0 q.1 in
           let some = fills x o.0 in
           let behind = takes_length q.0 (ended xs) rest q.2 in

@@ -4,15 +4,13 @@ use Rattle.std.specs.Prelude.{nat_le, nat_lt, ◌==◌}
 use Rattle.std.proofs.lemmas.Bool.Decides.{nat_tests}
 use Rattle.svr_token.specs.declared.Lexeme.{Lexeme}
 use Rattle.svr_tree.specs.Tokens.{Tok}
-use Rattle.svr_reader.specs.declared.fault.ReadFault.{ReadFault}
-use Rattle.svr_reader.specs.declared.fault.ReadFault.TheVariants.{NoMemory, Unexpected, TooDeep}
-use Rattle.svr_reader.specs.Program.{Outcome, Parser, and_then, lexeme_at, number_at, taken, entered}
+use Rattle.svr_reader.specs.Outcomes.{Stop, Stuck, Unexpected, TooDeep, Outcome, Parser, and_then, lexeme_at, number_at, taken, entered}
 use Rattle.svr_reader.proofs.Steps.{bind_is, bind_ok, entered_ok, entered_is}
 use Rattle.svr_reader.proofs.Local.{SameHead, Stays, StaysFor, IsLocal}
 
 -- the fault stands where n tokens are left
-abbrev pub FaultsAt : ReadFault → ℕ → Type 0
-FaultsAt NoMemory n = ⊥
+abbrev pub FaultsAt : Stop → ℕ → Type 0
+FaultsAt Stuck n = ⊥
 FaultsAt (Unexpected k) n = n ≡ k
 FaultsAt (TooDeep k) n = n ≡ k
 
@@ -32,8 +30,8 @@ pub record Completes {A : Type 0} (C : Option Lexeme → Type 0) (Q : A → Type
 
 -- a fault behind the first token can be completed, and p gets stuck nowhere
 pub record Later {A : Type 0} (most : ℕ) (C : Option Lexeme → Type 0) (Q : A → Type 0) (p : Parser A) : Type 0 where
-  pub later : (i : List Tok) (e : ReadFault) (n : ℕ) → length i < most → p i ≡ Err e → FaultsAt e n → n < length i → Completes C Q p i n
-  pub safe : (i : List Tok) → length i < most → p i ≡ Err NoMemory → ⊥
+  pub later : (i : List Tok) (e : Stop) (n : ℕ) → length i < most → p i ≡ Err e → FaultsAt e n → n < length i → Completes C Q p i n
+  pub safe : (i : List Tok) → length i < most → p i ≡ Err Stuck → ⊥
 
 -- some tokens are read whole; they and what follows begin with one of D
 pub record Finishes {A : Type 0} (D C : Option Lexeme → Type 0) (Q : A → Type 0) (p : Parser A) : Type 0 where
@@ -61,7 +59,7 @@ pub record Living {A : Type 0} (most : ℕ) (D0 D : Option Lexeme → Type 0) (R
   pub settles : Settles most D R p
   pub alive : Alive most D0 D R p
 
-pub bind_err : {A B G : Type 0} (o : Outcome A) (f : A → Parser B) (e : ReadFault) → and_then o f ≡ Err e → (o ≡ Err e → G) → ((x : A) (j : List Tok) → o ≡ Ok (x, j) → f x j ≡ Err e → G) → G
+pub bind_err : {A B G : Type 0} (o : Outcome A) (f : A → Parser B) (e : Stop) → and_then o f ≡ Err e → (o ≡ Err e → G) → ((x : A) (j : List Tok) → o ≡ Ok (x, j) → f x j ≡ Err e → G) → G
 bind_err (Ok y) f e h g k = k y.0 y.1 refl h
 bind_err (Err d) f e h g k = let same : d ≡ e = cc in g (ap Err same)
 
@@ -81,12 +79,12 @@ front_length i front j e = let f : length i ≡ length front + length j = ap len
 pub ok_shorter : {A : Type 0} (p : Parser A) → IsLocal p → (i : List Tok) (x : A) (j : List Tok) → p i ≡ Ok (x, j) → length j ≤ length i
 ok_shorter p l i x j e = let s = ok_stays p l i x j e in front_length i s.front j s.is
 
-fault_by : {A : Type 0} (p : Parser A) (i : List Tok) (e : ReadFault) (n : ℕ) → StaysFor p i (Err e) → FaultsAt e n → n ≤ length i
-fault_by p i NoMemory n s h = absurd h
+fault_by : {A : Type 0} (p : Parser A) (i : List Tok) (e : Stop) (n : ℕ) → StaysFor p i (Err e) → FaultsAt e n → n ≤ length i
+fault_by p i Stuck n s h = absurd h
 fault_by p i (Unexpected k) n s h = omega (arith, h, s.1, front_length i s.2.front s.0 s.2.is)
 fault_by p i (TooDeep k) n s h = omega (arith, h, s.1, front_length i s.2.front s.0 s.2.is)
 
-pub fault_within : {A : Type 0} (p : Parser A) → IsLocal p → (i : List Tok) (e : ReadFault) (n : ℕ) → p i ≡ Err e → FaultsAt e n → n ≤ length i
+pub fault_within : {A : Type 0} (p : Parser A) → IsLocal p → (i : List Tok) (e : Stop) (n : ℕ) → p i ≡ Err e → FaultsAt e n → n ≤ length i
 fault_within p l i e n h f = fault_by p i e n (subst (λ o. StaysFor p i o) h (l.at i)) f
 
 -- the same first token, where something stands before the rest
@@ -151,7 +149,7 @@ module _ {A B : Type 0} (most : ℕ) (D0 D C : Option Lexeme → Type 0) (Good :
         split n (length j)
         (λ lt. later_behind i n x j (ok_stays p l i x j is) lt ((a x d.good).later.later j e n (omega (arith, lim, less)) g fa lt))
         (λ le. later_at i n x j d (omega (arith, le, within)) (a x d.good).fin));
-    safe = λ i lim h. bind_err (p i) f NoMemory h
+    safe = λ i lim h. bind_err (p i) f Stuck h
         (λ fails. lp.safe i lim fails)
         (λ x j is g. let d = settles.at i x j lim is in let less = ok_shorter p l i x j is in (a x d.good).later.safe j (omega (arith, lim, less)) g);
   }
@@ -177,13 +175,13 @@ alive_pure most D C Q x q sub = record {
 }
 
 -- a fault at the first token is none behind it
-pub fault_len : (e : ReadFault) (n k : ℕ) → e ≡ Unexpected k → FaultsAt e n → n ≡ k
-fault_len NoMemory n k h f = absurd f
+pub fault_len : (e : Stop) (n k : ℕ) → e ≡ Unexpected k → FaultsAt e n → n ≡ k
+fault_len Stuck n k h f = absurd f
 fault_len (Unexpected a) n k h f = let same : a ≡ k = cc in f ∙ same
 fault_len (TooDeep a) n k h f = absurd (cc)
 
-pub fault_deep : (e : ReadFault) (n k : ℕ) → e ≡ TooDeep k → FaultsAt e n → n ≡ k
-fault_deep NoMemory n k h f = absurd f
+pub fault_deep : (e : Stop) (n k : ℕ) → e ≡ TooDeep k → FaultsAt e n → n ≡ k
+fault_deep Stuck n k h f = absurd f
 fault_deep (Unexpected a) n k h f = absurd (cc)
 fault_deep (TooDeep a) n k h f = let same : a ≡ k = cc in f ∙ same
 
@@ -209,17 +207,17 @@ behind_token most C Q p q t i n h d = record {
 at_first : {B : Type 0} (most : ℕ) (D C : Option Lexeme → Type 0) (Q : B → Type 0) (q : Parser B) (i : List Tok) (n : ℕ) → Finishes D C Q q → n ≡ length i → Completes C Q q i n
 at_first most D C Q q i n d e = record { front = []; j = i; is = refl; len = e; more = d.more; x = d.x; good = d.good; ends = d.ends }
 
-pub all_of : {B : Type 0} (most : ℕ) (D C : Option Lexeme → Type 0) (Q : B → Type 0) (q : Parser B) → IsLocal q → Alive most D C Q q → (i : List Tok) (e : ReadFault) (n : ℕ) → length i < most → q i ≡ Err e → FaultsAt e n → Completes C Q q i n
+pub all_of : {B : Type 0} (most : ℕ) (D C : Option Lexeme → Type 0) (Q : B → Type 0) (q : Parser B) → IsLocal q → Alive most D C Q q → (i : List Tok) (e : Stop) (n : ℕ) → length i < most → q i ≡ Err e → FaultsAt e n → Completes C Q q i n
 all_of most D C Q q l a i e n lim h f = split n (length i)
     (λ lt. a.later.later i e n lim h f lt)
     (λ le. at_first most D C Q q i n a.fin (let within = fault_within q l i e n h f in omega (arith, le, within)))
 
 module _ {B : Type 0} (most : ℕ) (D C : Option Lexeme → Type 0) (Q : B → Type 0) where
-  take_later : (f : ℕ → Parser B) → ((a : ℕ) → IsLocal (f a)) → ((a : ℕ) → Alive most D C Q (f a)) → (i : List Tok) (e : ReadFault) (n : ℕ) → length i < most → and_then (taken i) f ≡ Err e → FaultsAt e n → n < length i → Completes C Q (λ k. and_then (taken k) f) i n
+  take_later : (f : ℕ → Parser B) → ((a : ℕ) → IsLocal (f a)) → ((a : ℕ) → Alive most D C Q (f a)) → (i : List Tok) (e : Stop) (n : ℕ) → length i < most → and_then (taken i) f ≡ Err e → FaultsAt e n → n < length i → Completes C Q (λ k. and_then (taken k) f) i n
   take_later f l a [] e n lim h fa behind = absurd (omega arith)
   take_later f l a (t ∷ i) e n lim h fa behind = behind_token most C Q (λ k. and_then (taken k) f) (f t.at) t i n (λ k. refl) (all_of most D C Q (f t.at) (l t.at) (a t.at) i e n (omega arith) h fa)
 
-  take_safe : (f : ℕ → Parser B) → ((a : ℕ) → Alive most D C Q (f a)) → (i : List Tok) → length i < most → and_then (taken i) f ≡ Err NoMemory → ⊥
+  take_safe : (f : ℕ → Parser B) → ((a : ℕ) → Alive most D C Q (f a)) → (i : List Tok) → length i < most → and_then (taken i) f ≡ Err Stuck → ⊥
   take_safe f a [] lim h = absurd (cc)
   take_safe f a (t ∷ i) lim h = (a t.at).later.safe i (omega arith) h
 
@@ -274,23 +272,23 @@ module _ {B : Type 0} (most : ℕ) (D C : Option Lexeme → Type 0) (Q : B → T
 
   -- the token of a construct over parts of height h
   module _ (r h : ℕ) (low : h ≤ suc r) (f : ℕ → Parser B) (l : (a : ℕ) → IsLocal (f a)) (al : h ≤ r → (a : ℕ) → Alive most D C Q (f a)) where
-    outcome_of : {G : Type 0} (t : Tok) (i : List Tok) (e : ReadFault) → and_then (entered r h (t ∷ i)) f ≡ Err e → (h ≤ r → f t.at i ≡ Err e → G) → (e ≡ TooDeep (suc (length i)) → G) → G
+    outcome_of : {G : Type 0} (t : Tok) (i : List Tok) (e : Stop) → and_then (entered r h (t ∷ i)) f ≡ Err e → (h ≤ r → f t.at i ≡ Err e → G) → (e ≡ TooDeep (suc (length i)) → G) → G
     outcome_of {G = G} t i e k g d = by (nat_le h r) (h == suc r) refl refl k
       where
-        by : (a b : Bool) → nat_le h r ≡ a → (h == suc r) ≡ b → and_then (cond a (Ok (t.at, i)) (cond b (Err (TooDeep (suc (length i)))) (Err NoMemory))) f ≡ Err e → G
+        by : (a b : Bool) → nat_le h r ≡ a → (h == suc r) ≡ b → and_then (cond a (Ok (t.at, i)) (cond b (Err (TooDeep (suc (length i)))) (Err Stuck))) f ≡ Err e → G
         by true b a1 b1 z = g (grind (arith, nat_tests)) z
         by false true a1 b1 z = d (cc)
         by false false a1 b1 z = absurd (grind (arith, nat_tests))
 
-    entered_later : (i : List Tok) (e : ReadFault) (n : ℕ) → length i < most → and_then (entered r h i) f ≡ Err e → FaultsAt e n → n < length i → Completes C Q (λ k. and_then (entered r h k) f) i n
+    entered_later : (i : List Tok) (e : Stop) (n : ℕ) → length i < most → and_then (entered r h i) f ≡ Err e → FaultsAt e n → n < length i → Completes C Q (λ k. and_then (entered r h k) f) i n
     entered_later [] e n lim k fa behind = absurd (omega arith)
     entered_later (t ∷ i) e n lim k fa behind = outcome_of t i e k
         (λ fits g. behind_token most C Q (λ z. and_then (entered r h z) f) (f t.at) t i n (λ z. ap (λ v. and_then v f) (entered_is r h t z fits)) (all_of most D C Q (f t.at) (l t.at) (al fits t.at) i e n (omega arith) g fa))
         (λ deep. absurd (omega (arith, behind, fault_deep e n (suc (length i)) deep fa)))
 
-    entered_safe : (i : List Tok) → length i < most → and_then (entered r h i) f ≡ Err NoMemory → ⊥
+    entered_safe : (i : List Tok) → length i < most → and_then (entered r h i) f ≡ Err Stuck → ⊥
     entered_safe [] lim k = absurd (cc)
-    entered_safe (t ∷ i) lim k = outcome_of t i NoMemory k (λ fits g. (al fits t.at).later.safe i (omega arith) g) (λ deep. absurd (cc))
+    entered_safe (t ∷ i) lim k = outcome_of t i Stuck k (λ fits g. (al fits t.at).later.safe i (omega arith) g) (λ deep. absurd (cc))
 
     pub later_enter : Later most C Q (λ i. and_then (entered r h i) f)
     later_enter = record { later = λ i e n lim k fa behind. entered_later i e n lim k fa behind; safe = λ i lim k. entered_safe i lim k }

@@ -3,14 +3,13 @@ use Rattle.std.proofs.Common.{◌≡◌, ℕ, zero, suc, ◌<◌, ◌≤◌, tru
 use Rattle.svr_token.specs.declared.Lexeme.{Lexeme}
 use Rattle.svr_token.specs.declared.Mark.TheVariants as m
 use Rattle.svr_tree.specs.Tokens.{Tok, Any, FitEach}
+use Rattle.svr_reader.specs.Outcomes.{Stop, Stuck, Turn, go, done, Parser, lexeme_at, turned, turns}
 use Rattle.svr_reader.specs.declared.fixed.Fixed.{Fixed}
 use Rattle.svr_reader.specs.declared.fixed.Fixed.TheVariants as f
-use Rattle.svr_reader.specs.declared.fault.ReadFault.{ReadFault}
-use Rattle.svr_reader.specs.declared.fault.ReadFault.TheVariants.{NoMemory}
-use Rattle.svr_reader.specs.Program.{Turn, go, done, Program, pure, bind, take, loop, Parser, lexeme_at, turned, turns, run}
-use Rattle.svr_reader.specs.Steps.{fixed_lexeme, is_fixed, sees, eat}
-use Rattle.svr_reader.specs.Lists.{Tall, with_last, list_step, listing_on, listing, until_step, until}
-use Rattle.svr_reader.proofs.Steps.{bind_ok, bind_is, turn_ok, when, Saw, fixed_none, choose_ok, eat_ok, eats, eat_not, led_yes}
+use Rattle.svr_reader.specs.Program.{Program, pure, bind, take, loop, run, eat}
+use Rattle.svr_reader.specs.Steps.{fixed_lexeme, is_fixed, sees}
+use Rattle.svr_reader.specs.Lists.{WithHeight, with_last, list_step, listing_on, listing, until_step, until}
+use Rattle.svr_reader.proofs.Steps.{bind_ok, bind_is, turn_ok, when, Saw, eat_ok, eat_never, eats, eat_not, led_yes}
 use Rattle.svr_reader.proofs.Local.{IsLocal, local_run, local_turns}
 use Rattle.svr_reader.proofs.Live.{AnyToken, Finishes, Alive, Settled, bind_err, finishes_bind, later_bind, settled_behind, settled_here, ok_stays, ok_shorter}
 use Rattle.svr_reader.proofs.LiveLoops.{Then, Done, Goes, Turns}
@@ -31,18 +30,13 @@ module _ {K : Type 0} {Ans : K → Type 0} (most r : ℕ) (sub : (k : K) → Par
   abbrev comma : Fixed
   comma = f.Mark m.Comma
 
-  eat_never : (k : Fixed) (i : List Tok) (e : ReadFault) → R (eat k) i ≡ Err e → ⊥
-  unfolding eat
-  eat_never k [] e h = choose_ok most r sub (is_fixed k None) (bind take (λ _. pure true)) (pure false) [] (Err e) h (λ w g. let n = fixed_none k in absurd (cc)) (λ w g. absurd (cc))
-  eat_never k (t ∷ i) e h = choose_ok most r sub (is_fixed k (Some t.lexeme)) (bind take (λ _. pure true)) (pure false) (t ∷ i) (Err e) h (λ w g. absurd (cc)) (λ w g. absurd (cc))
-
   -- ---- x { "," x }: what follows the list, of C, is no comma
 
-  module _ {X : Type 0} (b : ℕ) (D C : Option Lexeme → Type 0) (within : (q : Option Lexeme) → C q → D q) (apart : (q : Option Lexeme) → C q → is_fixed comma q ≡ false) (p : Program K Ans (Tall X)) (v : F D (Low b) p) where
+  module _ {X : Type 0} (b : ℕ) (D C : Option Lexeme → Type 0) (within : (q : Option Lexeme) → C q → D q) (apart : (q : Option Lexeme) → C q → is_fixed comma q ≡ false) (p : Program K Ans (WithHeight X)) (v : F D (Low b) p) where
     abbrev Lists : Type 0
-    Lists = Tall (List X)
+    Lists = WithHeight (List X)
 
-    abbrev tail : Lists → Tall X → Program K Ans (Turn Lists Lists)
+    abbrev tail : Lists → WithHeight X → Program K Ans (Turn Lists Lists)
     tail s x = bind (eat comma) (λ more. pure (cond more (go (with_last s x)) (done (with_last s x))))
 
     abbrev step : Lists → Parser (Turn Lists Lists)
@@ -54,22 +48,22 @@ module _ {K : Type 0} {Ans : K → Type 0} (most r : ℕ) (sub : (k : K) → Par
     abbrev Ended : Turn Lists Lists → Type 0
     Ended = Done most AnyToken C (Low b) step (Low b)
 
-    tail_never : (s : Lists) (x : Tall X) (i : List Tok) (e : ReadFault) → R (tail s x) i ≡ Err e → ⊥
-    tail_never s x i e h = bind_err (R (eat comma) i) _ e h (λ g. eat_never comma i e g) (λ more j is g. absurd (cc))
+    tail_never : (s : Lists) (x : WithHeight X) (i : List Tok) (e : Stop) → R (tail s x) i ≡ Err e → ⊥
+    tail_never s x i e h = bind_err (R (eat comma) i) _ e h (λ g. eat_never most r sub comma i e g) (λ more j is g. absurd (cc))
 
-    tail_end : (s : Lists) (x : Tall X) (z : List Tok) → sees comma z ≡ false → R (tail s x) z ≡ Ok (done (with_last s x), z)
+    tail_end : (s : Lists) (x : WithHeight X) (z : List Tok) → sees comma z ≡ false → R (tail s x) z ≡ Ok (done (with_last s x), z)
     tail_end s x z h = bind_is (R (eat comma) z) _ false z _ (eat_not most r sub comma z h) refl
 
-    tail_fin : (P : Turn Lists Lists → Type 0) (s : Lists) (x : Tall X) → P (done (with_last s x)) → Finishes D C P (R (tail s x))
+    tail_fin : (P : Turn Lists Lists → Type 0) (s : Lists) (x : WithHeight X) → P (done (with_last s x)) → Finishes D C P (R (tail s x))
     tail_fin P s x g = record { more = []; x = done (with_last s x); good = g; opens = λ z cl. within (lexeme_at z) cl; ends = λ z cl. tail_end s x z (apart (lexeme_at z) cl) }
 
-    tail_alive : (s : Lists) (x : Tall X) → Low b s → Low b x → Alive most D C Ends (R (tail s x))
+    tail_alive : (s : Lists) (x : WithHeight X) → Low b s → Low b x → Alive most D C Ends (R (tail s x))
     tail_alive s x a e = record {
       fin = tail_fin Ends s x (omega (arith, a, e));
-      later = record { later = λ i g n lim h. absurd (tail_never s x i g h); safe = λ i lim h. tail_never s x i NoMemory h };
+      later = record { later = λ i g n lim h. absurd (tail_never s x i g h); safe = λ i lim h. tail_never s x i Stuck h };
     }
 
-    tail_go : (s : Lists) (x : Tall X) (mid j : List Tok) → FitEach mid (Any (fixed_lexeme comma) ∷ []) j → Settled AnyToken AnyAnswer (R (tail s x)) mid (go (with_last s x)) j
+    tail_go : (s : Lists) (x : WithHeight X) (mid j : List Tok) → FitEach mid (Any (fixed_lexeme comma) ∷ []) j → Settled AnyToken AnyAnswer (R (tail s x)) mid (go (with_last s x)) j
     tail_go s x [] j h = absurd h
     tail_go s x (t ∷ i) j h = record { good = tt; front = t ∷ []; is = ap (λ z. t ∷ z) h.1; closes = λ z _. bind_is (R (eat comma) (t ∷ z)) _ true z _ (eats most r sub comma (t ∷ z) z (h.0, refl)) refl }
 
@@ -173,27 +167,27 @@ module _ {K : Type 0} {Ans : K → Type 0} (most r : ℕ) (sub : (k : K) → Par
 
   -- ---- { x } and the word or mark k that ends them, which may follow an element
 
-  module _ {X : Type 0} (b : ℕ) (D : Option Lexeme → Type 0) (k : Fixed) (dk : D (Some (fixed_lexeme k))) (p : Program K Ans (Tall X)) (v : F D (Low b) p) where
-    abbrev UntilEnds : Turn (Tall (List X)) (Tall (List X)) → Type 0
+  module _ {X : Type 0} (b : ℕ) (D : Option Lexeme → Type 0) (k : Fixed) (dk : D (Some (fixed_lexeme k))) (p : Program K Ans (WithHeight X)) (v : F D (Low b) p) where
+    abbrev UntilEnds : Turn (WithHeight (List X)) (WithHeight (List X)) → Type 0
     UntilEnds = Then most D D (Low b) (λ s. R (until_step k p s)) (Low b)
 
-    abbrev one_more : Tall (List X) → Program K Ans (Turn (Tall (List X)) (Tall (List X)))
+    abbrev one_more : WithHeight (List X) → Program K Ans (Turn (WithHeight (List X)) (WithHeight (List X)))
     one_more s = bind p (λ x. pure (go (with_last s x)))
 
-    goes_form : (s : Tall (List X)) → Low b s → F D UntilEnds (one_more s)
+    goes_form : (s : WithHeight (List X)) → Low b s → F D UntilEnds (one_more s)
     goes_form s inv = then_form most r sub ls v (λ x g. let low : Low b (with_last s x) = omega (arith, inv, g) in
         pure_goal most r sub ls {Q = UntilEnds} {x = go (with_last s x)} (low, λ _ h. h) (λ _ h. h))
 
-    step_form : (s : Tall (List X)) → Low b s → F D UntilEnds (until_step k p s)
+    step_form : (s : WithHeight (List X)) → Low b s → F D UntilEnds (until_step k p s)
     unfolding until_step
     step_form s inv = led_form most r sub ls k (pure (done s)) (one_more s) D UntilEnds (pure_goal most r sub ls {Q = UntilEnds} {x = done s} inv (λ _ _. tt)) (goes_form s inv)
 
-    step_ends : (s : Tall (List X)) (z : List Tok) → R (until_step k p s) (tok (fixed_lexeme k) ∷ z) ≡ Ok (done s, z)
+    step_ends : (s : WithHeight (List X)) (z : List Tok) → R (until_step k p s) (tok (fixed_lexeme k) ∷ z) ≡ Ok (done s, z)
     unfolding until_step
     step_ends s z = led_yes most r sub k (pure (done s)) (one_more s) (tok (fixed_lexeme k)) z refl
 
     -- behind elements that were read
-    pub until_on_goal : (s : Tall (List X)) → Low b s → G D D (Low b) (loop (until_step k p) s)
+    pub until_on_goal : (s : WithHeight (List X)) → Low b s → G D D (Low b) (loop (until_step k p) s)
     until_on_goal s low = loop_goal most r sub ls some
         (turns_of most r sub ls D (Low b) (Low b) (until_step k p) step_form (λ s inv. record { more = tok (fixed_lexeme k) ∷ []; x = done s; good = inv; opens = λ z cl. dk; ends = λ z cl. step_ends s z }))
         low

@@ -2,9 +2,7 @@
 use Rattle.std.proofs.Common.{◌≡◌, ℕ, zero, suc, ◌<◌, List, [], ◌++◌, length, Option, Ok, Err, refl, sym, ◌∙◌, ap, subst, arith}
 use Rattle.svr_token.specs.declared.Lexeme.{Lexeme}
 use Rattle.svr_tree.specs.Tokens.{Tok}
-use Rattle.svr_reader.specs.declared.fault.ReadFault.{ReadFault}
-use Rattle.svr_reader.specs.declared.fault.ReadFault.TheVariants.{NoMemory}
-use Rattle.svr_reader.specs.Program.{Turn, go, done, Parser, lexeme_at, turned, turns}
+use Rattle.svr_reader.specs.Outcomes.{Stop, Stuck, Turn, go, done, Parser, lexeme_at, turned, turns}
 use Rattle.svr_reader.proofs.Steps.{bind_is, turn_ok}
 use Rattle.svr_reader.proofs.Local.{IsLocal, local_turns}
 use Rattle.svr_reader.proofs.Live.{FaultsAt, Completes, Later, Finishes, Alive, Settled, Settles, bind_err, split, ok_stays, fault_within, later_in, later_at, later_behind, settled_behind, settled_here}
@@ -50,11 +48,11 @@ module _ {S A : Type 0} (most : ℕ) (E C : Option Lexeme → Type 0) (Q : A →
     turned_local n (go s) = local_turns n step t.local s
     turned_local n (done a) = record { at = λ i. record { front = []; is = refl; stays = λ k h. refl } }
 
-    turn_err : {G : Type 0} (n : ℕ) (v : Turn S A) (j : List Tok) (e : ReadFault) → turned (turns n step) v j ≡ Err e → ((s2 : S) → v ≡ go s2 → turns n step s2 j ≡ Err e → G) → G
+    turn_err : {G : Type 0} (n : ℕ) (v : Turn S A) (j : List Tok) (e : Stop) → turned (turns n step) v j ≡ Err e → ((s2 : S) → v ≡ go s2 → turns n step s2 j ≡ Err e → G) → G
     turn_err n (go s) j e h g = g s refl h
     turn_err n (done a) j e h g = absurd (cc)
 
-    later_turns : (n : ℕ) (s : S) → Inv s → (i : List Tok) (e : ReadFault) (k : ℕ) → length i < suc n → length i < most → turns (suc n) step s i ≡ Err e → FaultsAt e k → k < length i → Completes C Q (turns (suc n) step s) i k
+    later_turns : (n : ℕ) (s : S) → Inv s → (i : List Tok) (e : Stop) (k : ℕ) → length i < suc n → length i < most → turns (suc n) step s i ≡ Err e → FaultsAt e k → k < length i → Completes C Q (turns (suc n) step s) i k
     later_turns zero s inv i e k few lim h fa behind = absurd (omega arith)
     later_turns (suc n) s inv i e k few lim h fa behind = bind_err (step s i) (turned (turns (suc n) step)) e h
         (λ fails. let d = (t.later s inv).later i e k lim fails fa behind in
@@ -68,13 +66,13 @@ module _ {S A : Type 0} (most : ℕ) (E C : Option Lexeme → Type 0) (Q : A →
         (later_turns n s2 u.inv j e k (omega (arith, few, u.less)) (omega (arith, lim, u.less)) g2 fa lt))
         (λ le. later_at most E E C (λ _. Unit {0}) Q (step s) (turned (turns (suc n) step)) (t.local s) (turned_local (suc n)) i k (go s2) j u.settled (omega (arith, le, inside)) (fin_turns n s2 u.inv))))
 
-    safe_turns : (n : ℕ) (s : S) → Inv s → (i : List Tok) → length i < suc n → length i < most → turns (suc n) step s i ≡ Err NoMemory → ⊥
-    safe_turns zero s inv i few lim h = bind_err (step s i) (turned (turns zero step)) NoMemory h
+    safe_turns : (n : ℕ) (s : S) → Inv s → (i : List Tok) → length i < suc n → length i < most → turns (suc n) step s i ≡ Err Stuck → ⊥
+    safe_turns zero s inv i few lim h = bind_err (step s i) (turned (turns zero step)) Stuck h
         (λ fails. (t.later s inv).safe i lim fails)
-        (λ v j is g. turn_err zero v j NoMemory g (λ s2 e2 g2. let u = t.goes s i s2 j inv lim (is ∙ ap (λ z. Ok (z, j)) e2) in omega (arith, few, u.less)))
-    safe_turns (suc n) s inv i few lim h = bind_err (step s i) (turned (turns (suc n) step)) NoMemory h
+        (λ v j is g. turn_err zero v j Stuck g (λ s2 e2 g2. let u = t.goes s i s2 j inv lim (is ∙ ap (λ z. Ok (z, j)) e2) in omega (arith, few, u.less)))
+    safe_turns (suc n) s inv i few lim h = bind_err (step s i) (turned (turns (suc n) step)) Stuck h
         (λ fails. (t.later s inv).safe i lim fails)
-        (λ v j is g. turn_err (suc n) v j NoMemory g (λ s2 e2 g2. let u = t.goes s i s2 j inv lim (is ∙ ap (λ z. Ok (z, j)) e2) in
+        (λ v j is g. turn_err (suc n) v j Stuck g (λ s2 e2 g2. let u = t.goes s i s2 j inv lim (is ∙ ap (λ z. Ok (z, j)) e2) in
         safe_turns n s2 u.inv j (omega (arith, few, u.less)) (omega (arith, lim, u.less)) g2))
 
     settled_end : (n : ℕ) (s : S) (i : List Tok) (a : A) (j : List Tok) → Settled C Done (step s) i (done a) j → Settled C Q (turns (suc n) step s) i a j

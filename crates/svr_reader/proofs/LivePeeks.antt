@@ -2,7 +2,8 @@
 use Rattle.std.proofs.Common.{◌≡◌, ℕ, ◌<◌, ◌≤◌, List, [], ◌++◌, length, Option, Ok, Err, inr, refl, sym, ◌∙◌, ap, subst}
 use Rattle.svr_token.specs.declared.Lexeme.{Lexeme}
 use Rattle.svr_tree.specs.Tokens.{Tok}
-use Rattle.svr_reader.specs.Program.{Turn, go, done, Program, bind, peek, loop, Outcome, Parser, lexeme_at, run}
+use Rattle.svr_reader.specs.Outcomes.{Turn, go, done, Outcome, Parser, lexeme_at}
+use Rattle.svr_reader.specs.Program.{Program, bind, peek, loop, run}
 use Rattle.svr_reader.proofs.Local.{IsLocal, local_run}
 use Rattle.svr_reader.proofs.Live.{Later, Settled, same_front, later_peek}
 use Rattle.svr_reader.proofs.LiveLoops.{Then, Done, Goes, Turns}

@@ -2,8 +2,9 @@
 use Rattle.std.proofs.Common.{◌≡◌, ℕ, ◌≤◌, false, List, [], length, Option, Ok, ap, arith}
 use Rattle.svr_token.specs.declared.Lexeme.{Lexeme}
 use Rattle.svr_tree.specs.Tokens.{Tok}
+use Rattle.svr_reader.specs.Outcomes.{Turn, go, done, Outcome, Parser, lexeme_at}
 use Rattle.svr_reader.specs.declared.fixed.Fixed.{Fixed}
-use Rattle.svr_reader.specs.Program.{Turn, go, done, Program, pure, loop, Outcome, Parser, lexeme_at, run}
+use Rattle.svr_reader.specs.Program.{Program, pure, loop, run}
 use Rattle.svr_reader.specs.Steps.{is_fixed}
 use Rattle.svr_reader.specs.Lists.{led}
 use Rattle.svr_reader.proofs.Steps.{led_no, led_cases}

@@ -1,10 +1,12 @@
 -- Where there is no room for a construct, and what more room changes there.
-use Rattle.std.proofs.Common.{◌≡◌, ℕ, suc, ◌≤◌, Bool, true, false, List, [], ◌∷◌, length, Option, Some, Ok, Err, cond, ◌⊎◌, inl, inr, refl, sym, ◌∙◌, ap, arith}
+use Rattle.std.proofs.Common.{◌≡◌, ℕ, suc, ◌≤◌, Bool, true, false, List, [], ◌∷◌, length, Option, Some, Ok, Err, cond, ◌⊎◌, inl, inr, refl, sym, ◌∙◌, ap, subst, arith}
 use Rattle.svr_token.specs.declared.Lexeme.{Lexeme}
+use Rattle.svr_token.specs.declared.Lexeme.TheVariants as lexeme
+use Rattle.svr_token.specs.declared.NameKind.{NameKind}
 use Rattle.svr_tree.specs.Tokens.{Tok}
-use Rattle.svr_reader.specs.declared.fault.ReadFault.{ReadFault}
-use Rattle.svr_reader.specs.declared.fault.ReadFault.TheVariants.{NoMemory, Unexpected, TooDeep}
-use Rattle.svr_reader.specs.Program.{Program, bind, refuse, peek, here, take, enter, call, Parser, and_then, lexeme_at, number_at, run}
+use Rattle.svr_reader.specs.Outcomes.{Stop, Stuck, Unexpected, TooDeep, Parser, and_then, lexeme_at, number_at}
+use Rattle.svr_reader.specs.Steps.{named_by, named}
+use Rattle.svr_reader.specs.Program.{Program, bind, refuse, peek, here, take, known_name, enter, call, run}
 use Rattle.svr_reader.specs.Lists.{no_room}
 use Rattle.svr_reader.proofs.Steps.{when, entered_is}
 use Rattle.svr_reader.proofs.Local.{IsLocal, StaysFor, same_lexeme, local_run}
@@ -19,7 +21,7 @@ module _ (X : Type 0) (f : Option Lexeme → Bool) where
   pub none_local : IsLocal (no_room {A = X} f)
   none_local = record { at = λ i. none_at i (f (lexeme_at i)) refl }
 
-  none_fault : (i : List Tok) (e : ReadFault) → no_room {A = X} f i ≡ Err e → (e ≡ TooDeep (length i)) ⊎ (e ≡ Unexpected (length i))
+  none_fault : (i : List Tok) (e : Stop) → no_room {A = X} f i ≡ Err e → (e ≡ TooDeep (length i)) ⊎ (e ≡ Unexpected (length i))
   none_fault i e h = when (f (lexeme_at i)) (Err (TooDeep (length i))) (Err (Unexpected (length i))) (Err e) h (λ _ g. inl (cc)) (λ _ g. inr (cc))
 
   pub none_never : (i : List Tok) (y : X × List Tok) → no_room {A = X} f i ≡ Ok y → ⊥
@@ -28,7 +30,7 @@ module _ (X : Type 0) (f : Option Lexeme → Bool) where
   pub none_later : (most : ℕ) (C : Option Lexeme → Type 0) (Q : X → Type 0) → Later most C Q (no_room {A = X} f)
   none_later most C Q = record {
     later = λ i e n lim h fa behind. elim (none_fault i e h) as (λ _. Completes C Q (no_room {A = X} f) i n) [ inl a ↦ absurd (omega (arith, behind, fault_deep e n (length i) a fa)) | inr a ↦ absurd (omega (arith, behind, fault_len e n (length i) a fa)) ];
-    safe = λ i lim h. elim (none_fault i NoMemory h) as (λ _. ⊥) [ inl a ↦ absurd (cc) | inr a ↦ absurd (cc) ];
+    safe = λ i lim h. elim (none_fault i Stuck h) as (λ _. ⊥) [ inl a ↦ absurd (cc) | inr a ↦ absurd (cc) ];
   }
 
   -- with as much room nothing changes; with more, the construct gets past a token of f, and refuses any other
@@ -67,6 +69,19 @@ module _ {K : Type 0} {Ans : K → Type 0} (most r : ℕ) (sub : (k : K) → Par
 
   pub opens_take : {A : Type 0} {q : Lexeme} {g : ℕ → Program K Ans A} → OpensAt (Some q) true (bind take g)
   opens_take {q = q} {g = g} = record { past = λ i e h. take_past q g i e; refuses = λ i e h. absurd (cc) }
+
+  name_past : (k : NameKind) (i : List Tok) → lexeme_at i ≡ Some (lexeme.Name k) → Past (length i) (named i)
+  unfolding named
+  name_past k [] e = absurd (cc)
+  name_past k (t ∷ i) e = subst (λ q. Past (suc (length i)) (named_by q (t ∷ i))) (sym e) (omega arith)
+
+  pub opens_name : {k : NameKind} → OpensAt (Some (lexeme.Name k)) true known_name
+  opens_name {k = k} = record { past = λ i e h. name_past k i e; refuses = λ i e h. absurd (cc) }
+
+  -- a token that is no name is refused
+  pub opens_no_name : {q : Option Lexeme} → ((i : List Tok) → named_by q i ≡ Err (Unexpected (length i))) → OpensAt q false known_name
+  unfolding named
+  opens_no_name h = record { past = λ i e b. absurd (cc); refuses = λ i e b. subst (λ v. named_by v i ≡ Err (Unexpected (length i))) (sym e) (h i) }
 
   enter_past : {A : Type 0} (q : Lexeme) (h : ℕ) → h ≤ r → (g : ℕ → Program K Ans A) (i : List Tok) → lexeme_at i ≡ Some q → Past (length i) (run most r sub (bind (enter h) g) i)
   enter_past q h fits g [] e = absurd (cc)

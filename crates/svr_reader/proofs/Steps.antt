@@ -1,4 +1,4 @@
--- Laws of the steps that every production is made of. They speak of `FitEach`, which is by cases on the tokens; `Takes` holds it as its one field.
+-- Laws of the steps that every production is made of. They speak of `FitEach`, which is by cases on the tokens; `FitsAll` holds it as its one field.
 use Rattle.std.proofs.Common.{◌≡◌, ℕ, suc, ◌+◌, ◌≤◌, Bool, true, false, if◌then◌else◌, List, [], ◌∷◌, ◌++◌, length, Option, Some, None, Ok, Err, cond, refl, sym, ◌∙◌, ap, subst, arith, rules}
 use Rattle.std.specs.Prelude.{nat_le, ◌==◌}
 use Rattle.std.proofs.lemmas.Bool.Decides.{nat_tests}
@@ -9,13 +9,14 @@ use Rattle.svr_token.specs.declared.Lexeme.{Lexeme}
 use Rattle.svr_token.specs.declared.Lexeme.TheVariants as l
 use Rattle.svr_token.specs.declared.Word.{Word}
 use Rattle.svr_token.specs.declared.Mark.{Mark}
-use Rattle.svr_tree.specs.Tokens.{Tok, Entry, On, Any, Fits, FitEach}
+use Rattle.svr_token.specs.declared.NameKind.{NameKind}
+use Rattle.svr_tree.specs.Tokens.{Tok, Entry, On, Any, Name, Fits, FitEach}
+use Rattle.svr_reader.specs.Outcomes.{Stop, Unexpected, TooDeep, Stuck, Outcome, Parser, and_then, lexeme_at, taken, entered, Turn, go, done, turned}
 use Rattle.svr_reader.specs.declared.fixed.Fixed.{Fixed}
 use Rattle.svr_reader.specs.declared.fixed.Fixed.TheVariants as f
-use Rattle.svr_reader.specs.declared.fault.ReadFault.TheVariants.{NoMemory, Unexpected, TooDeep}
-use Rattle.svr_reader.specs.Program.{Turn, go, done, Program, pure, bind, refuse, take, Outcome, Parser, and_then, lexeme_at, taken, entered, turned, run}
-use Rattle.svr_reader.specs.Steps.{same_word, same_mark, fixed_lexeme, is_fixed, sees, eaten, expected, choose, eat, expect}
-use Rattle.svr_reader.specs.Lists.{led}
+use Rattle.svr_reader.specs.Program.{Program, pure, bind, eat, expect, known_name, either, run}
+use Rattle.svr_reader.specs.Steps.{same_word, same_mark, fixed_lexeme, is_fixed, sees, eaten, expected, named_by, named}
+use Rattle.svr_reader.specs.Lists.{choose, name, led}
 
 -- ---- outcomes
 
@@ -149,9 +150,9 @@ pub record Enters (r h : ℕ) (i : List Tok) (at : ℕ) (j : List Tok) : Type 0 
 
 pub entered_ok : (r h : ℕ) (i : List Tok) (at : ℕ) (j : List Tok) → entered r h i ≡ Ok (at, j) → Enters r h i at j
 entered_ok r h [] at j e = absurd (cc)
-entered_ok r h (t ∷ i) at j e = when (nat_le h r) (Ok (t.at, i)) (cond (h == suc r) (Err (TooDeep (suc (length i)))) (Err NoMemory)) (Ok (at, j)) e
+entered_ok r h (t ∷ i) at j e = when (nat_le h r) (Ok (t.at, i)) (cond (h == suc r) (Err (TooDeep (suc (length i)))) (Err Stuck)) (Ok (at, j)) e
     (λ w g. let both : ◌≡◌ {A = ℕ × List Tok} (t.at, i) (at, j) = cc in record { t = t; is = ap (λ z. t ∷ z.1) both; number = sym (ap (λ z. z.0) both); fits = lower w })
-    (λ w g. when (h == suc r) (Err (TooDeep (suc (length i)))) (Err NoMemory) (Ok (at, j)) g (λ _ f. absurd (cc)) (λ _ f. absurd (cc)))
+    (λ w g. when (h == suc r) (Err (TooDeep (suc (length i)))) (Err Stuck) (Ok (at, j)) g (λ _ f. absurd (cc)) (λ _ f. absurd (cc)))
   where
     lower : nat_le h r ≡ true → h ≤ r
     lower w = grind (arith, nat_tests)
@@ -168,23 +169,6 @@ module _ {K : Type 0} {Ans : K → Type 0} (most r : ℕ) (sub : (k : K) → Par
   abbrev R : {A : Type 0} → Program K Ans A → Parser A
   R p = run most r sub p
 
-  eat_by : (b : Bool) (i : List Tok) → R (choose b (bind take (λ _. pure true)) (pure false)) i ≡ (if b then and_then (taken i) (λ _ j. Ok (true, j)) else Ok (false, i))
-  eat_by true i = refl
-  eat_by false i = refl
-
-  pub eat_is : (k : Fixed) (i : List Tok) → R (eat k) i ≡ eaten k i
-  unfolding eat eaten
-  eat_is k i = eat_by (is_fixed k (lexeme_at i)) i
-
-  expect_by : (b : Bool) (i : List Tok)
-      → ◌≡◌ {A = Outcome (Unit {0})} (R (choose b (bind take (λ _. pure (tt {0}))) refuse) i) (if b then and_then (taken i) (λ _ j. Ok (tt {0}, j)) else Err (Unexpected (length i)))
-  expect_by true i = refl
-  expect_by false i = refl
-
-  pub expect_is : (k : Fixed) (i : List Tok) → R (expect k) i ≡ expected k i
-  unfolding expect expected
-  expect_is k i = expect_by (is_fixed k (lexeme_at i)) i
-
   pub choose_ok : {A G : Type 0} (b : Bool) (p q : Program K Ans A) (i : List Tok) (y : Outcome A) → R (choose b p q) i ≡ y → (b ≡ true → R p i ≡ y → G) → (b ≡ false → R q i ≡ y → G) → G
   choose_ok true p q i y h f g = f refl h
   choose_ok false p q i y h f g = g refl h
@@ -195,54 +179,86 @@ module _ {K : Type 0} {Ans : K → Type 0} (most r : ℕ) (sub : (k : K) → Par
   pub choose_false : {A : Type 0} (b : Bool) (p q : Program K Ans A) (i : List Tok) → b ≡ false → R (choose b p q) i ≡ R q i
   choose_false b p q i h = subst (λ v. R (choose v p q) i ≡ R q i) (sym h) refl
 
+  pub either_true : {A : Type 0} (b : Bool) (p q : Program K Ans A) (i : List Tok) → b ≡ true → R (either b p q) i ≡ R p i
+  either_true b p q i h = subst (λ v. R (either v p q) i ≡ R p i) (sym h) refl
+
+  pub either_false : {A : Type 0} (b : Bool) (p q : Program K Ans A) (i : List Tok) → b ≡ false → R (either b p q) i ≡ R q i
+  either_false b p q i h = subst (λ v. R (either v p q) i ≡ R q i) (sym h) refl
+
   -- the token that has to come was taken
   pub expect_ok : (k : Fixed) (i : List Tok) (y : Unit {0} × List Tok) → R (expect k) i ≡ Ok y → FitEach i (Any (fixed_lexeme k) ∷ []) y.1
-  unfolding expect
-  expect_ok k [] y h = choose_ok (is_fixed k None) (bind take (λ _. pure tt)) refuse [] (Ok y) h (λ w e. absurd (cc)) (λ w e. absurd (cc))
-  expect_ok k (t ∷ i) y h = choose_ok (is_fixed k (Some t.lexeme)) (bind take (λ _. pure tt)) refuse (t ∷ i) (Ok y) h
+  unfolding expected
+  expect_ok k [] y h = when (is_fixed k None) (Err (Unexpected 0)) (Err (Unexpected 0)) (Ok y) h (λ w e. absurd (cc)) (λ w e. absurd (cc))
+  expect_ok k (t ∷ i) y h = when (is_fixed k (Some t.lexeme)) (Ok (tt, i)) (Err (Unexpected (length (t ∷ i)))) (Ok y) h
       (λ w e. let same : ◌≡◌ {A = Unit {0} × List Tok} (tt, i) y = cc in (fixed_token k t.lexeme w, ap (λ z. z.1) same))
       (λ w e. absurd (cc))
 
   pub eat_ok : (k : Fixed) (i : List Tok) (y : Bool × List Tok) → R (eat k) i ≡ Ok y → Saw k i y.0 y.1
-  unfolding eat
-  eat_ok k [] y h = choose_ok (is_fixed k None) (bind take (λ _. pure true)) (pure false) [] (Ok y) h (λ w e. absurd (cc)) (λ w e. yields (Saw k []) false [] y e (refl, w))
-  eat_ok k (t ∷ i) y h = choose_ok (is_fixed k (Some t.lexeme)) (bind take (λ _. pure true)) (pure false) (t ∷ i) (Ok y) h
+  unfolding eaten
+  eat_ok k [] y h = when (is_fixed k None) (Err (Unexpected 0)) (Ok (false, [])) (Ok y) h (λ w e. absurd (cc)) (λ w e. yields (Saw k []) false [] y e (refl, w))
+  eat_ok k (t ∷ i) y h = when (is_fixed k (Some t.lexeme)) (Ok (true, i)) (Ok (false, t ∷ i)) (Ok y) h
       (λ w e. yields (Saw k (t ∷ i)) true i y e (fixed_token k t.lexeme w, refl))
       (λ w e. yields (Saw k (t ∷ i)) false (t ∷ i) y e (refl, w))
 
+  -- to take a word or mark that may come next meets no fault
+  pub eat_never : (k : Fixed) (i : List Tok) (e : Stop) → R (eat k) i ≡ Err e → ⊥
+  unfolding eaten
+  eat_never k [] e h = when (is_fixed k None) (Err (Unexpected 0)) (Ok (false, [])) (Err e) h (λ w g. let n = fixed_none k in absurd (cc)) (λ w g. absurd (cc))
+  eat_never k (t ∷ i) e h = when (is_fixed k (Some t.lexeme)) (Ok (true, i)) (Ok (false, t ∷ i)) (Err e) h (λ w g. absurd (cc)) (λ w g. absurd (cc))
+
   -- the token stands there
   pub expects : (k : Fixed) (i rest : List Tok) → FitEach i (Any (fixed_lexeme k) ∷ []) rest → R (expect k) i ≡ Ok (tt, rest)
-  unfolding expect
+  unfolding expected
   expects k [] rest h = absurd h
-  expects k (t ∷ i) rest h = choose_true _ _ _ (t ∷ i) (fixed_self k (Some t.lexeme) (ap Some h.0)) ∙ ap (λ v. Ok (tt, v)) h.1
+  expects k (t ∷ i) rest h = cond_true (is_fixed k (Some t.lexeme)) (Ok (tt, i)) (Err (Unexpected (length (t ∷ i)))) (fixed_self k (Some t.lexeme) (ap Some h.0)) ∙ ap (λ v. Ok (tt, v)) h.1
 
   pub eats : (k : Fixed) (i rest : List Tok) → FitEach i (Any (fixed_lexeme k) ∷ []) rest → R (eat k) i ≡ Ok (true, rest)
-  unfolding eat
+  unfolding eaten
   eats k [] rest h = absurd h
-  eats k (t ∷ i) rest h = choose_true _ _ _ (t ∷ i) (fixed_self k (Some t.lexeme) (ap Some h.0)) ∙ ap (λ v. Ok (true, v)) h.1
+  eats k (t ∷ i) rest h = cond_true (is_fixed k (Some t.lexeme)) (Ok (true, i)) (Ok (false, t ∷ i)) (fixed_self k (Some t.lexeme) (ap Some h.0)) ∙ ap (λ v. Ok (true, v)) h.1
 
   pub eat_not : (k : Fixed) (i : List Tok) → sees k i ≡ false → R (eat k) i ≡ Ok (false, i)
-  unfolding eat
-  eat_not k i h = choose_false _ _ _ i h
+  unfolding eaten
+  eat_not k i h = cond_false (sees k i) (and_then (taken i) (λ _ j. Ok (true, j))) (Ok (false, i)) h
+
+  -- ---- names
+
+  named_ok : (q : Option Lexeme) (i : List Tok) (y : (ℕ × NameKind) × List Tok) → lexeme_at i ≡ q → named_by q i ≡ Ok y → FitEach i (On y.0.0 (l.Name y.0.1) ∷ []) y.1
+  named_ok (Some (l.Name k)) [] y e h = absurd (cc)
+  named_ok (Some (l.Name k)) (t ∷ i) y e h = let is : t.lexeme ≡ l.Name k = cc in yields (λ x j. FitEach (t ∷ i) (On x.0 (l.Name x.1) ∷ []) j) (t.at, k) i y h ((refl, is), refl)
+  named_ok _ i y e h = absurd (cc)
+
+  -- the name was taken
+  pub known_name_sound : (i : List Tok) (x : ℕ × NameKind) (j : List Tok) → R known_name i ≡ Ok (x, j) → FitEach i (On x.0 (l.Name x.1) ∷ []) j
+  unfolding named
+  known_name_sound i x j h = named_ok (lexeme_at i) i (x, j) refl h
+
+  pub known_name_complete : (n : ℕ) (k : NameKind) (i rest : List Tok) → FitEach i (On n (l.Name k) ∷ []) rest → R known_name i ≡ Ok ((n, k), rest)
+  unfolding named
+  known_name_complete n k [] rest h = absurd h
+  known_name_complete n k (t ∷ i) rest h = ap (λ q. named_by (Some q) (t ∷ i)) h.0.1 ∙ (let at = h.0.0 in let end = h.1 in cc)
+
+  pub name_sound : (i : List Tok) (x : ℕ) (j : List Tok) → R name i ≡ Ok (x, j) → FitEach i (Name x ∷ []) j
+  name_sound i x j h = bind_ok (named i) (λ n j2. Ok (n.0, j2)) (x, j) h (λ n j2 e g.
+      let both : ◌≡◌ {A = ℕ × List Tok} (n.0, j2) (x, j) = cc in
+      subst (λ z. FitEach i (Name z.0 ∷ []) z.1) both (a_name i n.0 n.1 j2 (known_name_sound i n j2 e)))
+    where
+      a_name : (i : List Tok) (n : ℕ) (k : NameKind) (j : List Tok) → FitEach i (On n (l.Name k) ∷ []) j → FitEach i (Name n ∷ []) j
+      a_name [] n k j h = absurd h
+      a_name (t ∷ i) n k j h = ((h.0.0, record { kind = k; is = h.0.1 }), h.1)
+
+  pub name_complete : (n : ℕ) (i rest : List Tok) → FitEach i (Name n ∷ []) rest → R name i ≡ Ok (n, rest)
+  name_complete n [] rest h = absurd h
+  name_complete n (t ∷ i) rest h = bind_is (named (t ∷ i)) (λ x j. Ok (x.0, j)) (n, h.0.1.kind) rest _ (known_name_complete n h.0.1.kind (t ∷ i) rest ((h.0.0, h.0.1.is), h.1)) refl
 
   -- ---- one way behind a word or mark, another without it
 
   module _ {A : Type 0} (k : Fixed) (p q : Program K Ans A) where
     pub led_yes : (t : Tok) (z : List Tok) → t.lexeme ≡ fixed_lexeme k → R (led k p q) (t ∷ z) ≡ R p z
-    unfolding eat
-    led_yes t z h = by (is_fixed k (Some t.lexeme)) (fixed_self k (Some t.lexeme) (ap Some h))
-      where
-        by : (b : Bool) → b ≡ true → and_then (R (choose b (bind take (λ _. pure true)) (pure false)) (t ∷ z)) (λ f. R (choose f p q)) ≡ R p z
-        by true e = refl
-        by false e = absurd (cc)
+    led_yes t z h = bind_is (R (eat k) (t ∷ z)) (λ f. R (either f p q)) true z _ (eats k (t ∷ z) z (h, refl)) refl
 
     pub led_no : (z : List Tok) → sees k z ≡ false → R (led k p q) z ≡ R q z
-    unfolding eat
-    led_no z h = by (is_fixed k (lexeme_at z)) h
-      where
-        by : (b : Bool) → b ≡ false → and_then (R (choose b (bind take (λ _. pure true)) (pure false)) z) (λ f. R (choose f p q)) ≡ R q z
-        by true e = absurd (cc)
-        by false e = refl
+    led_no z h = bind_is (R (eat k) z) (λ f. R (either f p q)) false z _ (eat_not k z h) refl
 
     pub led_takes : (i mid : List Tok) → FitEach i (Any (fixed_lexeme k) ∷ []) mid → R (led k p q) i ≡ R p mid
     led_takes [] mid h = absurd h

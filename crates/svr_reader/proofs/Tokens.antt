@@ -1,9 +1,9 @@
 -- A list of tokens that is numbered.
 use Rattle.std.proofs.Common.{◌≡◌, ℕ, suc, ◌+◌, ◌<◌, List, [], ◌∷◌, length, drop, refl, ap, arith}
 use Rattle.svr_token.specs.declared.Lexeme.{Lexeme}
-use Rattle.svr_reader.specs.Numbered.{numbered}
 use Rattle.std.specs.List.{slice_get}
-use Rattle.svr_reader.specs.Program.{lexeme_at, number_at, next}
+use Rattle.svr_tree.specs.Tokens.{numbered}
+use Rattle.svr_reader.specs.Outcomes.{lexeme_at, number_at, next}
 
 pub length-numbered : (n : ℕ) (cs : List Lexeme) → length (numbered n cs) ≡ length cs
 length-numbered n [] = refl

@@ -1,9 +1,8 @@
 -- The exact place of a fault, for trees of any kind: `IsReading limit i t` says that the tokens i, all of them, spell the tree t, which is no higher than the limit.
-use Rattle.std.specs.Prelude.{◌≡◌, ℕ, ◌+◌, ◌==◌, if◌then◌else◌, List, [], ◌∷◌, ◌++◌, length, Ok, Err}
-use Rattle.svr_reader.specs.declared.fault.ReadFault.TheVariants.{NoMemory, Unexpected, TooDeep}
+use Rattle.std.specs.Prelude.{◌≡◌, ◌<◌, ◌≤◌, ℕ, suc, ◌+◌, ◌==◌, if◌then◌else◌, List, ◌++◌, length, take, Ok, Err}
 use Rattle.svr_tree.specs.Tokens.{Tok}
-use Rattle.svr_reader.specs.Program.{Outcome, Parser, and_then}
-use Rattle.svr_reader.specs.Lists.{Tall}
+use Rattle.svr_reader.specs.Outcomes.{Unexpected, TooDeep, Stuck, Outcome, Parser, and_then}
+use Rattle.svr_reader.specs.Lists.{WithHeight}
 
 module _ {X : Type 0} (IsReading : ℕ → List Tok → X → Type 0) where
   -- with some more tokens they spell such a tree
@@ -12,29 +11,23 @@ module _ {X : Type 0} (IsReading : ℕ → List Tok → X → Type 0) where
     pub tree : X
     pub reading : IsReading limit (i ++ more) tree
 
-  -- the same of the tokens and the one that comes next. The end of the text counts as one
-  pub data IsFrontWith (limit : ℕ) (front : List Tok) : List Tok → Type 0 where
-    token : (t : Tok) (rest : List Tok) → IsFront limit (front ++ t ∷ []) → IsFrontWith limit front (t ∷ rest)
-    end : (tree : X) → IsReading limit front tree → IsFrontWith limit front []
+  -- a tree goes on with the token of number n, behind all tokens before it. The end of the text counts as one
+  pub data GoesOn (limit : ℕ) (i : List Tok) (n : ℕ) : Type 0 where
+    token : n < length i → IsFront limit (take (suc n) i) → GoesOn limit i n
+    end : n ≡ length i → (tree : X) → IsReading limit i tree → GoesOn limit i n
 
-  -- the token of number n (as many as there are: the end) goes on with none of any height, and those before it go on
+  -- the token of number n goes on with a tree of no height, and those before it with one within the limit
   pub record IsUnexpected (limit : ℕ) (i : List Tok) (n : ℕ) : Type 0 where
-    pub front : List Tok
-    pub rest : List Tok
-    pub all : i ≡ front ++ rest
-    pub place : n ≡ length front
-    pub before : IsFront limit front
-    pub none : (h : ℕ) → IsFrontWith h front rest → ⊥
+    pub within : n ≤ length i
+    pub before : IsFront limit (take n i)
+    pub none : (h : ℕ) → GoesOn h i n → ⊥
 
   -- the token of number n goes on with higher trees alone, and those before it with one within the limit
   pub record IsTooDeep (limit : ℕ) (i : List Tok) (n : ℕ) : Type 0 where
-    pub front : List Tok
-    pub rest : List Tok
-    pub all : i ≡ front ++ rest
-    pub place : n ≡ length front
-    pub before : IsFront limit front
-    pub none : IsFrontWith limit front rest → ⊥
-    pub higher : (h : ℕ) × IsFrontWith h front rest
+    pub within : n ≤ length i
+    pub before : IsFront limit (take n i)
+    pub none : GoesOn limit i n → ⊥
+    pub higher : (h : ℕ) × GoesOn h i n
 
   -- a list of tokens has one answer: a reading, or one of the two faults at one place
   pub record HasOneAnswer (limit : ℕ) (i : List Tok) : Type 0 where
@@ -47,10 +40,10 @@ module _ {X : Type 0} (IsReading : ℕ → List Tok → X → Type 0) where
   -- a fault tells how many tokens are left at its place
   abbrev pub IsOutcome : ℕ → List Tok → Outcome X → Type 0
   IsOutcome limit i (Ok y) = IsReading limit i y.0
-  IsOutcome limit i (Err NoMemory) = ⊥
+  IsOutcome limit i (Err Stuck) = ⊥
   IsOutcome limit i (Err (Unexpected k)) = (n : ℕ) × (length i ≡ n + k) × IsUnexpected limit i n
   IsOutcome limit i (Err (TooDeep k)) = (n : ℕ) × (length i ≡ n + k) × IsTooDeep limit i n
 
 -- what p reads, and no token after it
-unfoldable pub whole : {X : Type 0} → Parser (Tall X) → Parser X
+unfoldable pub whole : {X : Type 0} → Parser (WithHeight X) → Parser X
 whole p i = and_then (p i) (λ x j. if length j == 0 then Ok (x.0, j) else Err (Unexpected (length j)))

@@ -1,6 +1,6 @@
-pub mod Program
+pub mod Outcomes
 pub mod Steps
-pub mod Numbered
+pub mod Program
 pub mod Answers
 pub mod Spelled
 pub mod Lists

@@ -1,17 +1,17 @@
--- Steps that every production is made of.
-use Rattle.std.specs.Prelude.{Bool, true, false, if◌then◌else◌, List, length, Option, Some, Ok, Err}
+-- Words, marks and names: what takes them.
+use Rattle.std.specs.Prelude.{ℕ, Bool, true, false, if◌then◌else◌, List, length, Option, Some, Ok, Err}
 use denote.Enum.Bare.{sameb}
 use Rattle.svr_token.specs.declared.Lexeme.{Lexeme}
 use Rattle.svr_token.specs.declared.Lexeme.TheVariants as l
 use Rattle.svr_token.specs.declared.Word.{Word}
 use Rattle.svr_token.specs.declared.Mark.{Mark}
+use Rattle.svr_token.specs.declared.NameKind.{NameKind}
 use Rattle.svr_token.specs.contracts.Word as words
 use Rattle.svr_token.specs.contracts.Mark as marks
 use Rattle.svr_tree.specs.Tokens.{Tok}
 use Rattle.svr_reader.specs.declared.fixed.Fixed.{Fixed}
 use Rattle.svr_reader.specs.declared.fixed.Fixed.TheVariants as f
-use Rattle.svr_reader.specs.declared.fault.ReadFault.TheVariants.{Unexpected}
-use Rattle.svr_reader.specs.Program.{Program, pure, bind, refuse, peek, take, Parser, and_then, lexeme_at, taken}
+use Rattle.svr_reader.specs.Outcomes.{Unexpected, Parser, and_then, lexeme_at, taken}
 
 -- `==` on words and on marks
 unfoldable pub same_word : Word → Word → Bool
@@ -42,14 +42,10 @@ eaten k i = if sees k i then and_then (taken i) (λ _ j. Ok (true, j)) else Ok (
 unfoldable pub expected : Fixed → Parser (Unit {0})
 expected k i = if sees k i then and_then (taken i) (λ _ j. Ok (tt, j)) else Err (Unexpected (length i))
 
--- one way or the other
-abbrev pub choose : {K : Type 0} {Ans : K → Type 0} {A : Type 0} → Bool → Program K Ans A → Program K Ans A → Program K Ans A
-choose true p q = p
-choose false p q = q
+abbrev pub named_by : Option Lexeme → Parser (ℕ × NameKind)
+named_by (Some (l.Name k)) i = and_then (taken i) (λ n j. Ok ((n, k), j))
+named_by _ i = Err (Unexpected (length i))
 
--- the same, as programs
-unfoldable pub eat : {K : Type 0} {Ans : K → Type 0} → Fixed → Program K Ans Bool
-eat k = bind peek (λ q. choose (is_fixed k q) (bind take (λ _. pure true)) (pure false))
-
-unfoldable pub expect : {K : Type 0} {Ans : K → Type 0} → Fixed → Program K Ans (Unit {0})
-expect k = bind peek (λ q. choose (is_fixed k q) (bind take (λ _. pure tt)) refuse)
+-- takes a name, which has to come next, and tells of which kind it is
+unfoldable pub named : Parser (ℕ × NameKind)
+named i = named_by (lexeme_at i) i

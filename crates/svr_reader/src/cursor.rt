@@ -1,15 +1,16 @@
 // The tokens that are left.
 
-ghost use Rattle.std.specs.Prelude.{◌≡◌, ◌+◌, ◌<◌, ◌≤◌, ◌^◌, length, IfOk};
-ghost use Rattle.svr_reader.specs.Program as prog;
+ghost use Rattle.std.specs.Prelude.{◌≡◌, ◌+◌, ◌<◌, ◌≤◌, ◌^◌, length, Ok, IfOk, OnErr};
+ghost use Rattle.svr_tree.specs.Tokens.{numbered};
+ghost use Rattle.svr_reader.specs.Outcomes as outcome;
 ghost use Rattle.svr_reader.specs.Steps as spec;
-ghost use Rattle.svr_reader.specs.Answers.{Gives};
-ghost use Rattle.svr_reader.specs.Numbered.{numbered};
+ghost use Rattle.svr_reader.specs.Lists as programs;
+ghost use Rattle.svr_reader.specs.Answers.{Answers, plainly};
 
 use crate::fault::ReadFault;
 use crate::fixed::{Fixed, is_fixed};
 use std::marker::Model;
-use svr_tree::Lexeme;
+use svr_token::{Lexeme, Mark, NameKind};
 
 /// What the tokens of a script spell, from some token on. Contracts see the tokens that are left, each with its number.
 #[derive(Drop)]
@@ -20,8 +21,7 @@ pub struct Cursor<'a> {
 
 impl<'a> Model for Cursor<'a> {
     ghost use Rattle.std.specs.Prelude.{List, ◌+◌, ◌<◌, ◌^◌, length};
-    ghost use Rattle.svr_tree.specs.Tokens.{Tok};
-    ghost use Rattle.svr_reader.specs.Numbered.{numbered};
+    ghost use Rattle.svr_tree.specs.Tokens.{Tok, numbered};
 
     ghost Value = { List Tok };
 
@@ -42,10 +42,11 @@ impl<'a> Cursor<'a> {
         }
     }
 
-    /// How many tokens are left.
+    /// How many tokens are left: fewer than 2^32.
     #[tactic(auto, using(crate::proofs::Tokens::of_numbered))]
     pub fn left(&self) -> usize
-        ensures { result ≡ length self.now }
+        ensures is { result ≡ length self.now }
+        ensures few { result < 2 ^ 32 }
     {
         self.rest.len()
     }
@@ -53,7 +54,7 @@ impl<'a> Cursor<'a> {
     /// What the next token spells. None at the end of the text.
     #[tactic(auto, using(crate::proofs::Tokens::of_numbered))]
     pub fn peek(&self) -> Option<Lexeme>
-        ensures { result ≡ prog.lexeme_at self.now }
+        ensures { result ≡ outcome.lexeme_at self.now }
     {
         match self.rest {
             [] => None,
@@ -64,7 +65,7 @@ impl<'a> Cursor<'a> {
     /// The number of the next token, 0 at the end of the text.
     #[tactic(auto, using(crate::proofs::Tokens::of_numbered))]
     pub fn at(&self) -> u32
-        ensures { result ≡ prog.number_at self.now }
+        ensures { result ≡ outcome.number_at self.now }
     {
         match self.rest {
             [] => 0,
@@ -73,9 +74,12 @@ impl<'a> Cursor<'a> {
     }
 
     /// Takes the next token, and gives its number.
+    ///
+    /// Errors: `Unexpected` at the end of the text. The cursor stays as it was.
     #[tactic(auto, using(crate::proofs::Tokens::of_numbered))]
     pub fn take(&mut self) -> Result<u32, ReadFault>
-        ensures { Gives (λ n. n) (prog.taken self.old) result self.new }
+        ensures gives { Answers (λ n. n) (outcome.taken self.old) result self.new }
+        ensures stays { OnErr result (self.new ≡ self.old) }
     {
         match self.rest {
             [] => Err(ReadFault::Unexpected(0)),
@@ -89,25 +93,26 @@ impl<'a> Cursor<'a> {
     }
 
     /// Takes the first token of a construct over a part of this height, where there is room for parts as high as `room`.
+    ///
+    /// Errors: `Unexpected` at the end of the text, `TooDeep` where there is no room. The cursor stays as it was.
     #[tactic(auto, using(crate::proofs::Tokens::of_numbered))]
     pub fn enter(&mut self, room: usize, height: usize) -> Result<u32, ReadFault>
-        requires { room + 1 < 2 ^ 64 }
-        ensures gives { Gives (λ n. n) (prog.entered room height self.old) result self.new }
+        requires room { room + 1 < 2 ^ 64 }
+        requires height { height ≤ room + 1 }
+        ensures gives { Answers (λ n. n) (outcome.entered room height self.old) result self.new }
         ensures fits { IfOk result (λ n. height ≤ room) }
+        ensures stays { OnErr result (self.new ≡ self.old) }
     {
         match self.rest {
             [] => Err(ReadFault::Unexpected(0)),
             [_, rest @ ..] => {
-                if height <= room {
-                    let at = self.at;
-                    self.rest = rest;
-                    self.at = at + 1;
-                    Ok(at)
-                } else if height == room + 1 {
-                    Err(ReadFault::TooDeep(self.rest.len()))
-                } else {
-                    Err(ReadFault::NoMemory)
+                if height > room {
+                    return Err(ReadFault::TooDeep(self.rest.len()));
                 }
+                let at = self.at;
+                self.rest = rest;
+                self.at = at + 1;
+                Ok(at)
             }
         }
     }
@@ -133,29 +138,81 @@ impl<'a> Cursor<'a> {
         is_fixed(fixed, self.peek())
     }
 
-    /// Takes the word or mark, if it comes next.
+    /// Takes the word or mark, if it comes next, and tells whether it did.
     #[tactic(auto, unfolding(crate::specs::Steps::eaten))]
-    pub fn eat(&mut self, fixed: Fixed) -> Result<bool, ReadFault>
-        ensures { Gives (λ b. b) (spec.eaten fixed self.old) result self.new }
+    pub fn eat(&mut self, fixed: Fixed) -> bool
+        ensures { spec.eaten fixed self.old ≡ Ok (result, self.new) }
     {
-        if self.sees(fixed) {
-            self.take()?;
-            Ok(true)
-        } else {
-            Ok(false)
-        }
+        self.sees(fixed) && self.take().is_ok()
     }
 
     /// Takes the word or mark, which has to come next.
+    ///
+    /// Errors: `Unexpected` at any other token. The cursor stays as it was.
     #[tactic(auto, unfolding(crate::specs::Steps::expected))]
     pub fn expect(&mut self, fixed: Fixed) -> Result<(), ReadFault>
-        ensures { Gives (λ u. u) (spec.expected fixed self.old) result self.new }
+        ensures gives { Answers (λ u. u) (spec.expected fixed self.old) result self.new }
+        ensures stays { OnErr result (self.new ≡ self.old) }
     {
         if self.sees(fixed) {
             self.take()?;
             Ok(())
         } else {
             Err(self.refuse())
+        }
+    }
+
+    /// Takes a name: its number, and of which kind it is (IEEE 1800-2017, A.9.3).
+    ///
+    /// Errors: `Unexpected` at any other token. The cursor stays as it was.
+    #[tactic(auto, unfolding(crate::specs::Steps::named))]
+    pub fn known_name(&mut self) -> Result<(u32, NameKind), ReadFault>
+        ensures gives { Answers (λ n. n) (spec.named self.old) result self.new }
+        ensures stays { OnErr result (self.new ≡ self.old) }
+    {
+        match self.peek() {
+            Some(Lexeme::Name(kind)) => Ok((self.take()?, kind)),
+            _ => Err(self.refuse()),
+        }
+    }
+
+    /// Takes a name, and gives its number.
+    ///
+    /// Errors: `Unexpected` at any other token. The cursor stays as it was.
+    pub fn name(&mut self) -> Result<u32, ReadFault>
+        ensures gives { Answers (λ n. n) (plainly programs.name self.old) result self.new }
+        ensures stays { OnErr result (self.new ≡ self.old) }
+    {
+        let (name, _) = self.known_name()?;
+        Ok(name)
+    }
+
+    /// The name behind this word or mark, or none of both.
+    ///
+    /// Errors: `Unexpected` behind the word or mark, at a token that is no name.
+    #[tactic(auto, unfolding(crate::specs::Lists::name_behind))]
+    pub fn name_behind(&mut self, fixed: Fixed) -> Result<Option<u32>, ReadFault>
+        ensures { Answers (λ n. n) (plainly (programs.name_behind fixed) self.old) result self.new }
+    {
+        if self.eat(fixed) {
+            Ok(Some(self.name()?))
+        } else {
+            Ok(None)
+        }
+    }
+
+    /// `[ ( ) ]`, and whether it stands there.
+    ///
+    /// Errors: `Unexpected` behind `(`, at a token other than `)`.
+    #[tactic(auto, unfolding(crate::specs::Lists::parens))]
+    pub fn parens(&mut self) -> Result<bool, ReadFault>
+        ensures { Answers (λ b. b) (plainly programs.parens self.old) result self.new }
+    {
+        if self.eat(Fixed::Mark(Mark::OpenParen)) {
+            self.expect(Fixed::Mark(Mark::CloseParen))?;
+            Ok(true)
+        } else {
+            Ok(false)
         }
     }
 }

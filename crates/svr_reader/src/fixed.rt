@@ -3,7 +3,7 @@
 ghost use Rattle.std.specs.Prelude.{◌≡◌};
 ghost use Rattle.svr_reader.specs.Steps as spec;
 
-use svr_tree::{Lexeme, Mark, Word};
+use svr_token::{Lexeme, Mark, Word};
 
 /// A reserved word or a mark.
 #[derive(Clone, Copy, Debug, PartialEq, Eq)]

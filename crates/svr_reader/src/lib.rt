@@ -15,11 +15,9 @@ mod fault;
 mod fixed;
 mod list;
 mod spelling;
-#[cfg(test)]
-mod tests;
 
 pub use cursor::Cursor;
 pub use fault::ReadFault;
 pub use fixed::{Fixed, is_fixed};
-pub use list::{TURNS, listing, listing_on, until, until_on};
+pub use list::{listing, listing_on, until, until_on};
 pub use spelling::lexemes;

@@ -11,8 +11,6 @@ mod kind;
 mod memory;
 mod reduction;
 mod shifter;
-#[cfg(test)]
-mod tests;
 
 pub use choice::choose;
 pub use extension::extend;

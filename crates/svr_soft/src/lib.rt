@@ -5,8 +5,6 @@
 
 mod memory;
 mod priority;
-#[cfg(test)]
-mod tests;
 
 pub use memory::NoMemory;
 pub use priority::{PassEnd, pass};

@@ -7,25 +7,22 @@ use Rattle.svr_tree.specs.declared.item.Item.{Item}
 use Rattle.svr_tree.specs.declared.stmt.Stmt.{Stmt}
 use Rattle.svr_tree.specs.ItemTree.{ItemTrees, item_trees}
 use Rattle.svr_tree.specs.StmtTree.{stmt_tree}
+use Rattle.svr_reader.specs.Outcomes.{Parser}
 use Rattle.svr_reader.specs.declared.fault.ReadFault.{ReadFault}
-use Rattle.svr_reader.specs.Program.{Parser, run}
+use Rattle.svr_reader.specs.Program.{run}
 use Rattle.svr_reader.specs.Answers.{Gives}
-use Rattle.svr_reader.specs.Calls.{cap, tall_by}
-use Rattle.svr_reader.specs.Lists.{Tall}
-use Rattle.svr_stmt.specs.StmtRules.{Reader, parts, stmt}
-
--- what a production comes to in the code, where the parts of a statement may be so high
-abbrev pub R : {A : Type 0} → ℕ → Reader A → Parser A
-R room p = run cap room (parts cap room (stmt cap room)) p
+use Rattle.svr_reader.specs.Calls.{cap, height_view}
+use Rattle.svr_reader.specs.Lists.{WithHeight}
+use Rattle.svr_stmt.specs.StmtRules.{stmt}
 
 -- an in-line set seen as data
-abbrev pub set_by : Option (List Item) → Option ItemTrees
-set_by = option_map item_trees
+abbrev pub set_view : Option (List Item) → Option ItemTrees
+set_view = option_map item_trees
 
 -- a function that reads the statements one level below
 pub record Nests (room : ℕ) (pre : Global → MutBor (List Tok) → ℕ → Type 0)
-    (post : Global → MutBor (List Tok) → ℕ → Result (Tall Stmt) ReadFault → MutBor (List Tok) → Type 0) : Type 0 where
+    (post : Global → MutBor (List Tok) → ℕ → Result (WithHeight Stmt) ReadFault → MutBor (List Tok) → Type 0) : Type 0 where
   pub callable : (alloc : Global) (old : MutBor (List Tok)) → pre alloc old room
-  pub gives : (alloc : Global) (old new : MutBor (List Tok)) (r : Result (Tall Stmt) ReadFault) → post alloc old room r new
-      → Gives (tall_by stmt_tree) (stmt cap room old.now) r new.now
-  pub low : (alloc : Global) (old new : MutBor (List Tok)) (r : Result (Tall Stmt) ReadFault) → post alloc old room r new → IfOk r (λ x. x.1 ≤ room)
+  pub gives : (alloc : Global) (old new : MutBor (List Tok)) (r : Result (WithHeight Stmt) ReadFault) → post alloc old room r new
+      → Gives (height_view stmt_tree) (stmt cap room old.now) r new.now
+  pub low : (alloc : Global) (old new : MutBor (List Tok)) (r : Result (WithHeight Stmt) ReadFault) → post alloc old room r new → IfOk r (λ x. x.1 ≤ room)

@@ -1,42 +1,41 @@
 // Calls of `randomize` (IEEE 1800-2017, A.8.2).
 
 ghost use Rattle.std.specs.Prelude.{◌≤◌, ◌<◌, IfOk};
-ghost use Rattle.svr_reader.specs.Answers.{Gives};
-ghost use Rattle.svr_reader.specs.Calls.{tall_by, talls_by};
+ghost use Rattle.svr_reader.specs.Answers.{Answers, Gives};
+ghost use Rattle.svr_reader.specs.Calls.{cap, height_view, heights_view};
 ghost use Rattle.svr_reader.specs.Lists.{listing as listing_program};
 ghost use Rattle.svr_tree.specs.ExprTree.{expr_tree};
 ghost use Rattle.svr_tree.specs.StmtTree.{randomize_tree};
 ghost use Rattle.svr_stmt.specs.StmtRules as spec;
-ghost use Rattle.svr_stmt.specs.Parts.{R, set_by};
+ghost use Rattle.svr_stmt.specs.Parts.{set_view};
 
-use crate::method::{Method, owner, path_method};
-use crate::parts::Parts;
+use crate::method::{Method, path_method};
+use crate::reader::Reader;
 use sqlite_items::Items;
+use svr_expr::owner;
 use svr_item::set_items;
 use svr_reader::{Cursor, Fixed, ReadFault, listing};
-use svr_tree::{Expr, Item, Lexeme, Mark, RandomizeArgs, RandomizeCall, Word};
+use svr_token::{Lexeme, Mark, Word};
+use svr_tree::{Expr, Item, RandomizeArgs, RandomizeCall};
 
-impl Parts {
-    #[tactic(auto, unfolding(crate::specs::StmtRules::argument, svr_expr::specs::ExprRules::name, svr_expr::specs::ExprRules::known_name))]
+impl Reader {
+    #[tactic(auto, unfolding(crate::specs::StmtRules::argument))]
     fn argument(&self, cursor: &mut Cursor<'_>) -> Result<(u32, usize), ReadFault>
-        ensures { Gives (tall_by (λ n. n)) (R self.now.room spec.argument cursor.old) result cursor.new }
+        ensures { Answers (height_view (λ n. n)) (spec.within cap self.now.room spec.argument cursor.old) result cursor.new }
     {
-        match cursor.peek() {
-            Some(Lexeme::Name(_)) => Ok((cursor.take()?, 0)),
-            _ => Err(cursor.refuse()),
-        }
+        Ok((cursor.name()?, 0))
     }
 
     fn arguments(&self, cursor: &mut Cursor<'_>) -> Result<(Items<u32>, usize), ReadFault>
-        ensures { Gives (talls_by (λ n. n)) (R self.now.room (listing_program spec.argument) cursor.old) result cursor.new }
+        ensures { Gives (heights_view (λ n. n)) (spec.within cap self.now.room (listing_program spec.argument) cursor.old) result cursor.new }
     {
         listing(self.alloc, cursor, |cursor| self.argument(cursor))
     }
 
     /// `null`, or names
-    #[tactic(auto, using(crate::proofs::Rooms::same_names), unfolding(crate::specs::StmtRules::given))]
-    fn given(&self, cursor: &mut Cursor<'_>) -> Result<RandomizeArgs, ReadFault>
-        ensures { Gives (λ a. a) (R self.now.room spec.given cursor.old) result cursor.new }
+    #[tactic(auto, using(crate::proofs::Rooms::same_names), unfolding(crate::specs::StmtRules::call_arguments))]
+    fn call_arguments(&self, cursor: &mut Cursor<'_>) -> Result<RandomizeArgs, ReadFault>
+        ensures { Gives (λ a. a) (spec.within cap self.now.room spec.call_arguments cursor.old) result cursor.new }
     {
         match cursor.peek() {
             Some(Lexeme::Word(Word::Null)) => {
@@ -53,11 +52,11 @@ impl Parts {
     /// `[ with { items } ]`
     #[tactic(auto, unfolding(crate::specs::StmtRules::in_line))]
     fn in_line(&self, cursor: &mut Cursor<'_>) -> Result<(Option<Items<Item>>, usize), ReadFault>
-        ensures gives { Gives (tall_by set_by) (R self.now.room spec.in_line cursor.old) result cursor.new }
+        ensures gives { Gives (height_view set_view) (spec.within cap self.now.room spec.in_line cursor.old) result cursor.new }
         ensures low { IfOk result (λ x. x.1 ≤ self.now.room) }
     {
-        if self.eat(cursor, Fixed::Word(Word::With))? {
-            self.expect(cursor, Fixed::Mark(Mark::OpenBrace))?;
+        if cursor.eat(Fixed::Word(Word::With)) {
+            cursor.expect(Fixed::Mark(Mark::OpenBrace))?;
             let (items, height) = set_items(self.alloc, cursor, self.room)?;
             Ok((Some(items), height))
         } else {
@@ -74,7 +73,7 @@ impl Parts {
         args: RandomizeArgs,
     ) -> Result<(RandomizeCall, usize), ReadFault>
         requires path { 1 ≤ self.now.room }
-        ensures gives { Gives (tall_by randomize_tree) (R self.now.room (spec.randomize_end (expr_tree path) args) cursor.old) result cursor.new }
+        ensures gives { Gives (height_view randomize_tree) (spec.within cap self.now.room (spec.randomize_end (expr_tree path) args) cursor.old) result cursor.new }
         ensures low { IfOk result (λ x. x.1 ≤ self.now.room) }
     {
         let (with, height) = self.in_line(cursor)?;
@@ -90,11 +89,11 @@ impl Parts {
         path: Expr,
     ) -> Result<(RandomizeCall, usize), ReadFault>
         requires path { 1 ≤ self.now.room }
-        ensures gives { Gives (tall_by randomize_tree) (R self.now.room (spec.randomize_given (expr_tree path)) cursor.old) result cursor.new }
+        ensures gives { Gives (height_view randomize_tree) (spec.within cap self.now.room (spec.randomize_given (expr_tree path)) cursor.old) result cursor.new }
         ensures low { IfOk result (λ x. x.1 ≤ self.now.room) }
     {
-        let args = self.given(cursor)?;
-        self.expect(cursor, Fixed::Mark(Mark::CloseParen))?;
+        let args = self.call_arguments(cursor)?;
+        cursor.expect(Fixed::Mark(Mark::CloseParen))?;
         self.randomize_end(cursor, path, args)
     }
 
@@ -106,10 +105,10 @@ impl Parts {
         path: Expr,
     ) -> Result<(RandomizeCall, usize), ReadFault>
         requires path { 1 ≤ self.now.room }
-        ensures gives { Gives (tall_by randomize_tree) (R self.now.room (spec.randomize_on (expr_tree path)) cursor.old) result cursor.new }
+        ensures gives { Gives (height_view randomize_tree) (spec.within cap self.now.room (spec.randomize_on (expr_tree path)) cursor.old) result cursor.new }
         ensures low { IfOk result (λ x. x.1 ≤ self.now.room) }
     {
-        if self.eat(cursor, Fixed::Mark(Mark::CloseParen))? {
+        if cursor.eat(Fixed::Mark(Mark::CloseParen)) {
             self.randomize_end(cursor, path, RandomizeArgs::Empty)
         } else {
             self.randomize_given(cursor, path)
@@ -122,13 +121,13 @@ impl Parts {
         &self,
         cursor: &mut Cursor<'_>,
     ) -> Result<(RandomizeCall, usize), ReadFault>
-        ensures gives { Gives (tall_by randomize_tree) (R self.now.room spec.whole_call cursor.old) result cursor.new }
+        ensures gives { Gives (height_view randomize_tree) (spec.within cap self.now.room spec.whole_call cursor.old) result cursor.new }
         ensures low { IfOk result (λ x. x.1 ≤ self.now.room) }
     {
         let (path, kind) = self.path_here(cursor)?;
         match path_method(&path, kind) {
             Some(Method::Randomize) => {
-                self.expect(cursor, Fixed::Mark(Mark::OpenParen))?;
+                cursor.expect(Fixed::Mark(Mark::OpenParen))?;
                 self.randomize_on(cursor, path)
             }
             _ => Err(cursor.refuse()),

@@ -5,12 +5,10 @@
 
 mod calls;
 mod method;
-mod parts;
+mod reader;
 mod right;
 mod statement;
 mod target;
-#[cfg(test)]
-mod tests;
 
 pub use method::Method;
 pub use statement::{stmt, stmt_on};

@@ -4,8 +4,8 @@ ghost use Rattle.std.specs.Prelude.{◌≡◌};
 ghost use Rattle.svr_tree.specs.ExprTree.{expr_tree};
 ghost use Rattle.svr_stmt.specs.StmtRules as spec;
 
-use sqlite_items::Items;
-use svr_tree::{Expr, ModeKind, NameKind};
+use svr_token::NameKind;
+use svr_tree::{Expr, ModeKind};
 
 /// A method that is built in (IEEE 1800-2017, 18.6, 18.8 and 18.9).
 #[derive(Clone, Copy, Debug, PartialEq, Eq)]
@@ -18,7 +18,12 @@ fn method_of(kind: NameKind) -> Option<Method>
     ensures { result ≡ spec.method_of kind }
 {
     match kind {
-        NameKind::Plain => None,
+        NameKind::Plain
+        | NameKind::Sum
+        | NameKind::Product
+        | NameKind::And
+        | NameKind::Or
+        | NameKind::Xor => None,
         NameKind::Randomize => Some(Method::Randomize),
         NameKind::RandMode => Some(Method::Mode(ModeKind::Rand)),
         NameKind::ConstraintMode => Some(Method::Mode(ModeKind::Constraint)),
@@ -32,43 +37,5 @@ pub(crate) fn path_method(path: &Expr, kind: NameKind) -> Option<Method>
     match path {
         Expr::Path { names, .. } if names.len() > 1 => method_of(kind),
         _ => None,
-    }
-}
-
-fn all_but_last(names: Items<u32>) -> Items<u32>
-    ensures { result ≡ spec.all_but_last names }
-{
-    let mut rest = names;
-    rest.pop();
-    rest
-}
-
-/// The path without its last name.
-pub(crate) fn owner(path: Expr) -> Expr
-    ensures { expr_tree result ≡ spec.owner (expr_tree path) }
-{
-    match path {
-        Expr::Path {
-            at,
-            scope,
-            names,
-            call,
-        } => Expr::path(at, scope, all_but_last(names), call),
-        other => other,
-    }
-}
-
-/// The path with `()` behind it.
-pub(crate) fn with_call(path: Expr) -> Expr
-    ensures { expr_tree result ≡ spec.with_call (expr_tree path) }
-{
-    match path {
-        Expr::Path {
-            at,
-            scope,
-            names,
-            ..
-        } => Expr::path(at, scope, names, true),
-        other => other,
     }
 }

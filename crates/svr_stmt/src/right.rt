@@ -2,37 +2,39 @@
 
 ghost use Rattle.std.specs.Prelude.{◌≤◌, IfOk};
 ghost use Rattle.svr_reader.specs.Answers.{Gives};
-ghost use Rattle.svr_reader.specs.Calls.{tall_by};
+ghost use Rattle.svr_reader.specs.Calls.{cap, height_view};
 ghost use Rattle.svr_tree.specs.ExprTree.{expr_tree};
 ghost use Rattle.svr_tree.specs.StmtTree.{right_tree};
 ghost use Rattle.svr_stmt.specs.StmtRules as spec;
-ghost use Rattle.svr_stmt.specs.Parts.{R};
 
-use crate::method::{Method, path_method, with_call};
-use crate::parts::{Parts, starts_path};
+use crate::method::{Method, path_method};
+use crate::reader::Reader;
 use sqlite_items::Items;
-use svr_expr::{expr, exprs, link_of, links_of, rest_of};
+use svr_expr::{
+    connective_of, expr, exprs, rest_of_operand, rest_of_path, starts_path, with_parens,
+};
 use svr_reader::{Cursor, Fixed, ReadFault};
-use svr_tree::{Expr, Lexeme, Mark, RandomizeArgs, RightSide, Word};
+use svr_token::{Lexeme, Mark, NameKind, Word};
+use svr_tree::{Expr, RandomizeArgs, RightSide, level};
 
-impl Parts {
+impl Reader {
     /// `new`, with parentheses or a count behind it
     #[tactic(auto, unfolding(crate::specs::StmtRules::new_right))]
     fn new_right(&self, cursor: &mut Cursor<'_>) -> Result<(RightSide, usize), ReadFault>
-        ensures gives { Gives (tall_by right_tree) (R self.now.room spec.new_right cursor.old) result cursor.new }
+        ensures gives { Gives (height_view right_tree) (spec.within cap self.now.room spec.new_right cursor.old) result cursor.new }
         ensures low { IfOk result (λ x. x.1 ≤ self.now.room) }
     {
         cursor.take()?;
         match cursor.peek() {
             Some(Lexeme::Mark(Mark::OpenParen)) => {
                 cursor.take()?;
-                self.expect(cursor, Fixed::Mark(Mark::CloseParen))?;
+                cursor.expect(Fixed::Mark(Mark::CloseParen))?;
                 Ok((RightSide::New { parens: true }, 0))
             }
             Some(Lexeme::Mark(Mark::OpenBracket)) => {
                 cursor.take()?;
-                let (count, height) = expr(self.alloc, cursor, self.room, 1)?;
-                self.expect(cursor, Fixed::Mark(Mark::CloseBracket))?;
+                let (count, height) = expr(self.alloc, cursor, self.room, level::IMPLICATION)?;
+                cursor.expect(Fixed::Mark(Mark::CloseBracket))?;
                 Ok((RightSide::NewArray(count), height))
             }
             _ => Ok((RightSide::New { parens: false }, 0)),
@@ -42,16 +44,16 @@ impl Parts {
     /// `'{ values }`
     #[tactic(auto, unfolding(crate::specs::StmtRules::pattern_right))]
     fn pattern_right(&self, cursor: &mut Cursor<'_>) -> Result<(RightSide, usize), ReadFault>
-        ensures gives { Gives (tall_by right_tree) (R self.now.room spec.pattern_right cursor.old) result cursor.new }
+        ensures gives { Gives (height_view right_tree) (spec.within cap self.now.room spec.pattern_right cursor.old) result cursor.new }
         ensures low { IfOk result (λ x. x.1 ≤ self.now.room) }
     {
         let at = cursor.take()?;
-        if self.eat(cursor, Fixed::Mark(Mark::CloseBrace))? {
+        if cursor.eat(Fixed::Mark(Mark::CloseBrace)) {
             let values = Items::new(self.alloc);
             return Ok((RightSide::Pattern { at, values }, 0));
         }
         let (values, height) = exprs(self.alloc, cursor, self.room)?;
-        self.expect(cursor, Fixed::Mark(Mark::CloseBrace))?;
+        cursor.expect(Fixed::Mark(Mark::CloseBrace))?;
         Ok((RightSide::Pattern { at, values }, height))
     }
 
@@ -64,17 +66,17 @@ impl Parts {
         path: Expr,
     ) -> Result<(RightSide, usize), ReadFault>
         requires path { 1 ≤ self.now.room }
-        ensures gives { Gives (tall_by right_tree) (R self.now.room (spec.behind_parens at (expr_tree path)) cursor.old) result cursor.new }
+        ensures gives { Gives (height_view right_tree) (spec.within cap self.now.room (spec.behind_parens at (expr_tree path)) cursor.old) result cursor.new }
         ensures low { IfOk result (λ x. x.1 ≤ self.now.room) }
     {
-        match link_of(cursor.peek()) {
+        match connective_of(cursor.peek()) {
             None => {
                 let (call, height) = self.randomize_end(cursor, path, RandomizeArgs::Empty)?;
                 Ok((RightSide::Call(call), height))
             }
             Some(_) => {
-                let first = with_call(path);
-                let (value, height) = links_of(self.alloc, cursor, self.room, at, first, 1)?;
+                let first = with_parens(path);
+                let (value, height) = rest_of_operand(self.alloc, cursor, self.room, at, first, 1)?;
                 Ok((RightSide::Value(value), height))
             }
         }
@@ -89,10 +91,10 @@ impl Parts {
         path: Expr,
     ) -> Result<(RightSide, usize), ReadFault>
         requires path { 1 ≤ self.now.room }
-        ensures gives { Gives (tall_by right_tree) (R self.now.room (spec.behind_open at (expr_tree path)) cursor.old) result cursor.new }
+        ensures gives { Gives (height_view right_tree) (spec.within cap self.now.room (spec.behind_open at (expr_tree path)) cursor.old) result cursor.new }
         ensures low { IfOk result (λ x. x.1 ≤ self.now.room) }
     {
-        if self.eat(cursor, Fixed::Mark(Mark::CloseParen))? {
+        if cursor.eat(Fixed::Mark(Mark::CloseParen)) {
             self.behind_parens(cursor, at, path)
         } else {
             let (call, height) = self.randomize_given(cursor, path)?;
@@ -100,46 +102,47 @@ impl Parts {
         }
     }
 
-    /// What stands behind a path, the method of its last name aside.
+    /// What stands behind a path, where its last name, of this kind, is read as no method of a statement.
     #[tactic(auto, unfolding(crate::specs::StmtRules::behind_path, crate::specs::StmtRules::value_right))]
     fn behind_path(
         &self,
         cursor: &mut Cursor<'_>,
         at: u32,
         path: Expr,
+        kind: NameKind,
     ) -> Result<(RightSide, usize), ReadFault>
         requires path { 1 ≤ self.now.room }
-        ensures gives { Gives (tall_by right_tree) (R self.now.room (spec.behind_path at (expr_tree path)) cursor.old) result cursor.new }
+        ensures gives { Gives (height_view right_tree) (spec.within cap self.now.room (spec.behind_path at (expr_tree path, kind)) cursor.old) result cursor.new }
         ensures low { IfOk result (λ x. x.1 ≤ self.now.room) }
     {
-        let (value, height) = rest_of(self.alloc, cursor, self.room, at, path, 1)?;
+        let (value, height) = rest_of_path(self.alloc, cursor, self.room, at, path, kind)?;
         Ok((RightSide::Value(value), height))
     }
 
     /// A right side that begins with a path.
     #[tactic(auto, unfolding(crate::specs::StmtRules::path_right))]
     fn path_right(&self, cursor: &mut Cursor<'_>) -> Result<(RightSide, usize), ReadFault>
-        ensures gives { Gives (tall_by right_tree) (R self.now.room spec.path_right cursor.old) result cursor.new }
+        ensures gives { Gives (height_view right_tree) (spec.within cap self.now.room spec.path_right cursor.old) result cursor.new }
         ensures low { IfOk result (λ x. x.1 ≤ self.now.room) }
     {
         let at = cursor.at();
         let (path, kind) = self.path_here(cursor)?;
         match path_method(&path, kind) {
             Some(Method::Randomize) => {
-                if self.eat(cursor, Fixed::Mark(Mark::OpenParen))? {
+                if cursor.eat(Fixed::Mark(Mark::OpenParen)) {
                     self.behind_open(cursor, at, path)
                 } else {
-                    self.behind_path(cursor, at, path)
+                    self.behind_path(cursor, at, path, kind)
                 }
             }
-            _ => self.behind_path(cursor, at, path),
+            _ => self.behind_path(cursor, at, path, kind),
         }
     }
 
     /// A right side.
     #[tactic(auto, unfolding(crate::specs::StmtRules::right_in, crate::specs::StmtRules::value_right))]
     pub(crate) fn right_in(&self, cursor: &mut Cursor<'_>) -> Result<(RightSide, usize), ReadFault>
-        ensures gives { Gives (tall_by right_tree) (R self.now.room spec.right_in cursor.old) result cursor.new }
+        ensures gives { Gives (height_view right_tree) (spec.within cap self.now.room spec.right_in cursor.old) result cursor.new }
         ensures low { IfOk result (λ x. x.1 ≤ self.now.room) }
     {
         match cursor.peek() {
@@ -147,7 +150,7 @@ impl Parts {
             Some(Lexeme::Mark(Mark::OpenPattern)) => self.pattern_right(cursor),
             next if starts_path(next) => self.path_right(cursor),
             _ => {
-                let (value, height) = expr(self.alloc, cursor, self.room, 1)?;
+                let (value, height) = expr(self.alloc, cursor, self.room, level::IMPLICATION)?;
                 Ok((RightSide::Value(value), height))
             }
         }

@@ -1,24 +1,27 @@
 // Statements, and those that begin with a word or a mark (IEEE 1800-2017, A.6).
 
-ghost use Rattle.std.specs.Prelude.{◌≡◌, ◌≤◌, ◌<◌, ◌+◌, ◌^◌, IfOk, Err};
+ghost use Rattle.std.specs.Prelude.{◌≡◌, ◌≤◌, ◌<◌, ◌+◌, ◌^◌, IfOk, if◌then◌else◌, length};
+ghost use Rattle.svr_reader.specs.declared.fault.ReadFault.TheVariants.{Unexpected, TooDeep};
+ghost use Rattle.svr_reader.specs.Outcomes.{lexeme_at};
 ghost use Rattle.svr_reader.specs.Answers.{Gives};
-ghost use Rattle.svr_reader.specs.Calls.{cap, tall_by, talls_by};
-ghost use Rattle.svr_reader.specs.Lists.{Tall, no_room, until as until_program};
+ghost use Rattle.svr_reader.specs.Calls.{cap, height_view, heights_view};
+ghost use Rattle.svr_reader.specs.Lists.{WithHeight, until as until_program};
 ghost use Rattle.svr_reader.specs.Program.{call};
 ghost use Rattle.svr_reader.specs.declared.fixed.Fixed.TheVariants as f;
 ghost use Rattle.svr_token.specs.declared.Word.TheVariants as w;
 ghost use Rattle.svr_tree.specs.StmtTree.{StmtTree, stmt_tree};
 ghost use Rattle.svr_stmt.specs.StmtRules as spec;
-ghost use Rattle.svr_stmt.specs.Parts.{R, Nests};
+ghost use Rattle.svr_stmt.specs.Parts.{Nests};
 
-use crate::parts::{Parts, starts_path};
+use crate::reader::Reader;
 use sqlite_items::Items;
 use std::alloc::Global;
-use svr_expr::expr;
+use svr_expr::{expr, starts_path};
 use svr_reader::{Cursor, Fixed, ReadFault, until};
-use svr_tree::{CallForm, Lexeme, Mark, NameKind, Stmt, Word};
+use svr_token::{Lexeme, Mark, NameKind, Word};
+use svr_tree::{CallForm, Stmt, level};
 
-impl Parts {
+impl Reader {
     /// A call in parentheses, and `;`.
     #[tactic(auto, unfolding(crate::specs::StmtRules::enclosed_call))]
     fn enclosed_call(
@@ -28,13 +31,13 @@ impl Parts {
         form: CallForm,
     ) -> Result<(Stmt, usize), ReadFault>
         requires room { self.now.room + 1 < 2 ^ 64 }
-        ensures gives { Gives (tall_by stmt_tree) (R self.now.room (spec.enclosed_call at form) cursor.old) result cursor.new }
+        ensures gives { Gives (height_view stmt_tree) (spec.within cap self.now.room (spec.enclosed_call at form) cursor.old) result cursor.new }
         ensures low { IfOk result (λ x. x.1 ≤ self.now.room + 1) }
     {
-        self.expect(cursor, Fixed::Mark(Mark::OpenParen))?;
+        cursor.expect(Fixed::Mark(Mark::OpenParen))?;
         let (call, height) = self.whole_call(cursor)?;
-        self.expect(cursor, Fixed::Mark(Mark::CloseParen))?;
-        self.expect(cursor, Fixed::Mark(Mark::Semicolon))?;
+        cursor.expect(Fixed::Mark(Mark::CloseParen))?;
+        cursor.expect(Fixed::Mark(Mark::Semicolon))?;
         Ok((Stmt::call(at, form, call), height + 1))
     }
 
@@ -42,11 +45,11 @@ impl Parts {
     #[tactic(auto, unfolding(crate::specs::StmtRules::void_stmt))]
     fn void_stmt(&self, cursor: &mut Cursor<'_>) -> Result<(Stmt, usize), ReadFault>
         requires room { self.now.room + 1 < 2 ^ 64 }
-        ensures gives { Gives (tall_by stmt_tree) (R self.now.room spec.void_stmt cursor.old) result cursor.new }
+        ensures gives { Gives (height_view stmt_tree) (spec.within cap self.now.room spec.void_stmt cursor.old) result cursor.new }
         ensures low { IfOk result (λ x. x.1 ≤ self.now.room + 1) }
     {
         let at = cursor.enter(self.room, 1)?;
-        self.expect(cursor, Fixed::Mark(Mark::Apostrophe))?;
+        cursor.expect(Fixed::Mark(Mark::Apostrophe))?;
         self.enclosed_call(cursor, at, CallForm::Void)
     }
 
@@ -54,7 +57,7 @@ impl Parts {
     #[tactic(auto, unfolding(crate::specs::StmtRules::assert_stmt))]
     fn assert_stmt(&self, cursor: &mut Cursor<'_>) -> Result<(Stmt, usize), ReadFault>
         requires room { self.now.room + 1 < 2 ^ 64 }
-        ensures gives { Gives (tall_by stmt_tree) (R self.now.room spec.assert_stmt cursor.old) result cursor.new }
+        ensures gives { Gives (height_view stmt_tree) (spec.within cap self.now.room spec.assert_stmt cursor.old) result cursor.new }
         ensures low { IfOk result (λ x. x.1 ≤ self.now.room + 1) }
     {
         let at = cursor.enter(self.room, 1)?;
@@ -65,7 +68,7 @@ impl Parts {
     #[tactic(auto, unfolding(crate::specs::StmtRules::empty_stmt))]
     fn empty_stmt(&self, cursor: &mut Cursor<'_>) -> Result<(Stmt, usize), ReadFault>
         requires room { self.now.room + 1 < 2 ^ 64 }
-        ensures gives { Gives (tall_by stmt_tree) (R self.now.room spec.empty_stmt cursor.old) result cursor.new }
+        ensures gives { Gives (height_view stmt_tree) (spec.within cap self.now.room spec.empty_stmt cursor.old) result cursor.new }
         ensures low { IfOk result (λ x. x.1 ≤ self.now.room + 1) }
     {
         let at = cursor.enter(self.room, 0)?;
@@ -76,7 +79,7 @@ impl Parts {
 /// What reads the statements within a statement, which may be as high as its other parts. The function is a parameter, so that each production is proved by itself.
 #[derive(Clone, Copy)]
 struct Within<F> {
-    parts: Parts,
+    parts: Reader,
     stmt: F,
 }
 
@@ -84,7 +87,7 @@ impl<F: Fn(Global, &mut Cursor<'_>, usize) -> Result<(Stmt, usize), ReadFault>> 
     /// A statement one level below.
     fn part(&self, cursor: &mut Cursor<'_>) -> Result<(Stmt, usize), ReadFault>
         requires nests { Nests self.now.parts.room (F.pre self.now.stmt) (F.post self.now.stmt) }
-        ensures gives { Gives (tall_by stmt_tree) (spec.stmt cap self.now.parts.room cursor.old) result cursor.new }
+        ensures gives { Gives (height_view stmt_tree) (spec.stmt cap self.now.parts.room cursor.old) result cursor.new }
         ensures low { IfOk result (λ x. x.1 ≤ self.now.parts.room) }
     {
         (self.stmt)(self.parts.alloc, cursor, self.parts.room)
@@ -93,7 +96,7 @@ impl<F: Fn(Global, &mut Cursor<'_>, usize) -> Result<(Stmt, usize), ReadFault>> 
     /// Statements up to `end`, which is taken.
     fn stmts(&self, cursor: &mut Cursor<'_>) -> Result<(Items<Stmt>, usize), ReadFault>
         requires nests { Nests self.now.parts.room (F.pre self.now.stmt) (F.post self.now.stmt) }
-        ensures gives { Gives (talls_by stmt_tree) (R self.now.parts.room (until_program (f.Word w.End) (call spec.a_stmt)) cursor.old) result cursor.new }
+        ensures gives { Gives (heights_view stmt_tree) (spec.within cap self.now.parts.room (until_program (f.Word w.End) (call spec.a_stmt)) cursor.old) result cursor.new }
         ensures low { IfOk result (λ x. x.1 ≤ self.now.parts.room) }
     {
         until(
@@ -109,7 +112,7 @@ impl<F: Fn(Global, &mut Cursor<'_>, usize) -> Result<(Stmt, usize), ReadFault>> 
     fn block_stmt(&self, cursor: &mut Cursor<'_>) -> Result<(Stmt, usize), ReadFault>
         requires nests { Nests self.now.parts.room (F.pre self.now.stmt) (F.post self.now.stmt) }
         requires room { self.now.parts.room + 1 < 2 ^ 64 }
-        ensures gives { Gives (tall_by stmt_tree) (R self.now.parts.room spec.block_stmt cursor.old) result cursor.new }
+        ensures gives { Gives (height_view stmt_tree) (spec.within cap self.now.parts.room spec.block_stmt cursor.old) result cursor.new }
         ensures low { IfOk result (λ x. x.1 ≤ self.now.parts.room + 1) }
     {
         let at = cursor.enter(self.parts.room, 0)?;
@@ -122,13 +125,18 @@ impl<F: Fn(Global, &mut Cursor<'_>, usize) -> Result<(Stmt, usize), ReadFault>> 
     fn repeat_stmt(&self, cursor: &mut Cursor<'_>) -> Result<(Stmt, usize), ReadFault>
         requires nests { Nests self.now.parts.room (F.pre self.now.stmt) (F.post self.now.stmt) }
         requires room { self.now.parts.room + 1 < 2 ^ 64 }
-        ensures gives { Gives (tall_by stmt_tree) (R self.now.parts.room spec.repeat_stmt cursor.old) result cursor.new }
+        ensures gives { Gives (height_view stmt_tree) (spec.within cap self.now.parts.room spec.repeat_stmt cursor.old) result cursor.new }
         ensures low { IfOk result (λ x. x.1 ≤ self.now.parts.room + 1) }
     {
         let at = cursor.enter(self.parts.room, 1)?;
-        self.parts.expect(cursor, Fixed::Mark(Mark::OpenParen))?;
-        let (count, height) = expr(self.parts.alloc, cursor, self.parts.room, 1)?;
-        self.parts.expect(cursor, Fixed::Mark(Mark::CloseParen))?;
+        cursor.expect(Fixed::Mark(Mark::OpenParen))?;
+        let (count, height) = expr(
+            self.parts.alloc,
+            cursor,
+            self.parts.room,
+            level::IMPLICATION,
+        )?;
+        cursor.expect(Fixed::Mark(Mark::CloseParen))?;
         let (body, body_height) = self.part(cursor)?;
         let whole = Stmt::repeat(self.parts.alloc, at, count, body)?;
         Ok((whole, height.max(body_height) + 1))
@@ -139,7 +147,7 @@ impl<F: Fn(Global, &mut Cursor<'_>, usize) -> Result<(Stmt, usize), ReadFault>> 
     fn stmt_in(&self, cursor: &mut Cursor<'_>) -> Result<(Stmt, usize), ReadFault>
         requires nests { Nests self.now.parts.room (F.pre self.now.stmt) (F.post self.now.stmt) }
         requires room { self.now.parts.room + 1 < 2 ^ 64 }
-        ensures gives { Gives (tall_by stmt_tree) (R self.now.parts.room spec.stmt_in cursor.old) result cursor.new }
+        ensures gives { Gives (height_view stmt_tree) (spec.within cap self.now.parts.room spec.stmt_in cursor.old) result cursor.new }
         ensures low { IfOk result (λ x. x.1 ≤ self.now.parts.room + 1) }
     {
         match cursor.peek() {
@@ -154,7 +162,7 @@ impl<F: Fn(Global, &mut Cursor<'_>, usize) -> Result<(Stmt, usize), ReadFault>> 
 }
 
 /// Whether a statement begins with the token.
-fn starts(lexeme: Option<Lexeme>) -> bool
+fn starts_stmt(lexeme: Option<Lexeme>) -> bool
     ensures { result ≡ spec.stmt_starts lexeme }
 {
     match lexeme {
@@ -169,9 +177,9 @@ fn starts(lexeme: Option<Lexeme>) -> bool
 
 /// The fault where there is no room for a statement.
 fn no_stmt(cursor: &Cursor<'_>) -> ReadFault
-    ensures { no_room {A = Tall StmtTree} spec.stmt_starts cursor.now ≡ Err result }
+    ensures { result ≡ (if spec.stmt_starts (lexeme_at cursor.now) then TooDeep (length cursor.now) else Unexpected (length cursor.now)) }
 {
-    if starts(cursor.peek()) {
+    if starts_stmt(cursor.peek()) {
         cursor.too_deep()
     } else {
         cursor.refuse()
@@ -182,13 +190,13 @@ fn no_stmt(cursor: &Cursor<'_>) -> ReadFault
 ///
 /// Errors: `Unexpected` at a token that goes on with no statement, `TooDeep` at one that goes on with higher ones only.
 pub fn stmt(alloc: Global, cursor: &mut Cursor<'_>, room: usize) -> Result<(Stmt, usize), ReadFault>
-    ensures gives { Gives (tall_by stmt_tree) (spec.stmt cap room cursor.old) result cursor.new }
+    ensures gives { Gives (height_view stmt_tree) (spec.stmt cap room cursor.old) result cursor.new }
     ensures low { IfOk result (λ x. x.1 ≤ room) }
 {
     if room == 0 {
         return Err(no_stmt(cursor));
     }
-    let parts = Parts {
+    let parts = Reader {
         alloc,
         room: room - 1,
     };
@@ -207,10 +215,10 @@ pub fn stmt_on(
     first_kind: NameKind,
 ) -> Result<(Stmt, usize), ReadFault>
     requires room { 2 ≤ room }
-    ensures gives { Gives (tall_by stmt_tree) (spec.stmt_on cap room (first, first_kind) cursor.old) result cursor.new }
+    ensures gives { Gives (height_view stmt_tree) (spec.stmt_on cap room (first, first_kind) cursor.old) result cursor.new }
     ensures low { IfOk result (λ x. x.1 ≤ room) }
 {
-    let parts = Parts {
+    let parts = Reader {
         alloc,
         room: room - 1,
     };

@@ -2,22 +2,22 @@
 
 ghost use Rattle.std.specs.Prelude.{◌≤◌, ◌<◌, ◌+◌, ◌^◌, IfOk};
 ghost use Rattle.svr_reader.specs.Answers.{Gives};
-ghost use Rattle.svr_reader.specs.Calls.{tall_by};
+ghost use Rattle.svr_reader.specs.Calls.{cap, height_view};
 ghost use Rattle.svr_tree.specs.ExprTree.{expr_tree};
 ghost use Rattle.svr_tree.specs.StmtTree.{stmt_tree};
 ghost use Rattle.svr_stmt.specs.StmtRules as spec;
-ghost use Rattle.svr_stmt.specs.Parts.{R};
 
-use crate::method::{Method, owner, path_method};
-use crate::parts::Parts;
-use svr_expr::{expr, member_on};
+use crate::method::{Method, path_method};
+use crate::reader::Reader;
+use svr_expr::{expr, member_on, owner};
 use svr_reader::{Cursor, Fixed, ReadFault};
-use svr_tree::{CallForm, Expr, Mark, ModeCall, ModeKind, NameKind, Stmt};
+use svr_token::{Mark, NameKind};
+use svr_tree::{CallForm, Expr, ModeCall, ModeKind, Stmt, level};
 
-impl Parts {
+impl Reader {
     /// The indices of a target, and the value that it gets.
-    #[tactic(auto, unfolding(crate::specs::StmtRules::assigned))]
-    fn assigned(
+    #[tactic(auto, unfolding(crate::specs::StmtRules::assign_on))]
+    fn assign_on(
         &self,
         cursor: &mut Cursor<'_>,
         at: u32,
@@ -25,13 +25,13 @@ impl Parts {
     ) -> Result<(Stmt, usize), ReadFault>
         requires path { 1 ≤ self.now.room }
         requires room { self.now.room + 1 < 2 ^ 64 }
-        ensures gives { Gives (tall_by stmt_tree) (R self.now.room (spec.assigned at (expr_tree path)) cursor.old) result cursor.new }
+        ensures gives { Gives (height_view stmt_tree) (spec.within cap self.now.room (spec.assign_on at (expr_tree path)) cursor.old) result cursor.new }
         ensures low { IfOk result (λ x. x.1 ≤ self.now.room + 1) }
     {
         let (target, height) = member_on(self.alloc, cursor, self.room, at, path, 1)?;
-        self.expect(cursor, Fixed::Mark(Mark::Assign))?;
+        cursor.expect(Fixed::Mark(Mark::Assign))?;
         let (value, value_height) = self.right_in(cursor)?;
-        self.expect(cursor, Fixed::Mark(Mark::Semicolon))?;
+        cursor.expect(Fixed::Mark(Mark::Semicolon))?;
         Ok((
             Stmt::assign(at, target, value),
             height.max(value_height) + 1,
@@ -39,8 +39,8 @@ impl Parts {
     }
 
     /// The rest of a call behind `(`.
-    #[tactic(auto, unfolding(crate::specs::StmtRules::called))]
-    fn called(
+    #[tactic(auto, unfolding(crate::specs::StmtRules::call_on))]
+    fn call_on(
         &self,
         cursor: &mut Cursor<'_>,
         at: u32,
@@ -48,17 +48,17 @@ impl Parts {
     ) -> Result<(Stmt, usize), ReadFault>
         requires path { 1 ≤ self.now.room }
         requires room { self.now.room + 1 < 2 ^ 64 }
-        ensures gives { Gives (tall_by stmt_tree) (R self.now.room (spec.called at (expr_tree path)) cursor.old) result cursor.new }
+        ensures gives { Gives (height_view stmt_tree) (spec.within cap self.now.room (spec.call_on at (expr_tree path)) cursor.old) result cursor.new }
         ensures low { IfOk result (λ x. x.1 ≤ self.now.room + 1) }
     {
         let (call, height) = self.randomize_on(cursor, path)?;
-        self.expect(cursor, Fixed::Mark(Mark::Semicolon))?;
+        cursor.expect(Fixed::Mark(Mark::Semicolon))?;
         Ok((Stmt::call(at, CallForm::Plain, call), height + 1))
     }
 
     /// The rest of a mode behind `(`.
-    #[tactic(auto, unfolding(crate::specs::StmtRules::moded))]
-    fn moded(
+    #[tactic(auto, unfolding(crate::specs::StmtRules::mode_on))]
+    fn mode_on(
         &self,
         cursor: &mut Cursor<'_>,
         at: u32,
@@ -67,12 +67,12 @@ impl Parts {
     ) -> Result<(Stmt, usize), ReadFault>
         requires path { 1 ≤ self.now.room }
         requires room { self.now.room + 1 < 2 ^ 64 }
-        ensures gives { Gives (tall_by stmt_tree) (R self.now.room (spec.moded at (expr_tree path) kind) cursor.old) result cursor.new }
+        ensures gives { Gives (height_view stmt_tree) (spec.within cap self.now.room (spec.mode_on at (expr_tree path) kind) cursor.old) result cursor.new }
         ensures low { IfOk result (λ x. x.1 ≤ self.now.room + 1) }
     {
-        let (on, height) = expr(self.alloc, cursor, self.room, 1)?;
-        self.expect(cursor, Fixed::Mark(Mark::CloseParen))?;
-        self.expect(cursor, Fixed::Mark(Mark::Semicolon))?;
+        let (on, height) = expr(self.alloc, cursor, self.room, level::IMPLICATION)?;
+        cursor.expect(Fixed::Mark(Mark::CloseParen))?;
+        cursor.expect(Fixed::Mark(Mark::Semicolon))?;
         let path = owner(path);
         Ok((
             Stmt::mode(at, ModeCall { path, kind, on }),
@@ -91,18 +91,18 @@ impl Parts {
     ) -> Result<(Stmt, usize), ReadFault>
         requires path { 1 ≤ self.now.room }
         requires room { self.now.room + 1 < 2 ^ 64 }
-        ensures gives { Gives (tall_by stmt_tree) (R self.now.room (spec.behind_target at (expr_tree path, kind)) cursor.old) result cursor.new }
+        ensures gives { Gives (height_view stmt_tree) (spec.within cap self.now.room (spec.behind_target at (expr_tree path, kind)) cursor.old) result cursor.new }
         ensures low { IfOk result (λ x. x.1 ≤ self.now.room + 1) }
     {
         let Some(method) = path_method(&path, kind) else {
-            return self.assigned(cursor, at, path);
+            return self.assign_on(cursor, at, path);
         };
-        if !self.eat(cursor, Fixed::Mark(Mark::OpenParen))? {
-            return self.assigned(cursor, at, path);
+        if !cursor.eat(Fixed::Mark(Mark::OpenParen)) {
+            return self.assign_on(cursor, at, path);
         }
         match method {
-            Method::Randomize => self.called(cursor, at, path),
-            Method::Mode(mode) => self.moded(cursor, at, path, mode),
+            Method::Randomize => self.call_on(cursor, at, path),
+            Method::Mode(mode) => self.mode_on(cursor, at, path, mode),
         }
     }
 
@@ -110,7 +110,7 @@ impl Parts {
     #[tactic(auto, unfolding(crate::specs::StmtRules::path_stmt))]
     pub(crate) fn path_stmt(&self, cursor: &mut Cursor<'_>) -> Result<(Stmt, usize), ReadFault>
         requires room { self.now.room + 1 < 2 ^ 64 }
-        ensures gives { Gives (tall_by stmt_tree) (R self.now.room spec.path_stmt cursor.old) result cursor.new }
+        ensures gives { Gives (height_view stmt_tree) (spec.within cap self.now.room spec.path_stmt cursor.old) result cursor.new }
         ensures low { IfOk result (λ x. x.1 ≤ self.now.room + 1) }
     {
         let at = cursor.at();
@@ -128,7 +128,7 @@ impl Parts {
     ) -> Result<(Stmt, usize), ReadFault>
         requires path { 1 ≤ self.now.room }
         requires room { self.now.room + 1 < 2 ^ 64 }
-        ensures gives { Gives (tall_by stmt_tree) (R self.now.room (spec.stmt_from (first, first_kind)) cursor.old) result cursor.new }
+        ensures gives { Gives (height_view stmt_tree) (spec.within cap self.now.room (spec.stmt_from (first, first_kind)) cursor.old) result cursor.new }
         ensures low { IfOk result (λ x. x.1 ≤ self.now.room + 1) }
     {
         let (path, kind) = self.path_behind(cursor, first, first_kind)?;

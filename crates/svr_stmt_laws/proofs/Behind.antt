@@ -6,42 +6,43 @@ use Rattle.svr_tree.specs.Tokens.{Tok, FitEach}
 use Rattle.svr_tree.specs.ExprTree.{ExprTree}
 use Rattle.svr_tree.specs.StmtTree.{StmtTree}
 use Rattle.svr_tree.specs.StmtGrammar.{stmt_spelling, IsStmt, stmt_height}
-use Rattle.svr_reader.specs.Program.{and_then, run}
-use Rattle.svr_reader.specs.Lists.{Tall}
+use Rattle.svr_reader.specs.Outcomes.{and_then}
+use Rattle.svr_reader.specs.Program.{run}
+use Rattle.svr_reader.specs.Lists.{WithHeight}
 use Rattle.svr_reader.proofs.Steps.{bind_ok}
 use Rattle.svr_reader.proofs.Rooms.{none_never}
 use Rattle.svr_reader.proofs.Layers.{ReadAs}
-use Rattle.svr_expr.specs.ExprRules.{starts_path, a_known_path}
-use Rattle.svr_stmt.specs.StmtRules.{behind_target, path_stmt, stmt_from, stmt_by, stmt_in, a_path_on, parts, stmt, stmt_on}
+use Rattle.svr_expr.specs.ExprRules.{path_starts, a_known_path}
+use Rattle.svr_stmt.specs.StmtRules.{behind_target, path_stmt, stmt_from, stmt_by, stmt_in, a_path_on, part, stmt, stmt_on}
 use Rattle.svr_stmt_laws.proofs.Paths.{a_path_on_is}
 use Rattle.svr_stmt_laws.proofs.Sets.{SetLaws}
 use Rattle.svr_stmt_laws.proofs.Sound.{stmt_sound}
 use Rattle.svr_stmt_laws.proofs.Complete.{stmt_pos, stmt_complete}
 
-by_name : (most r : ℕ) (t : Tok) (k : NameKind) (i : List Tok) → t.lexeme ≡ lexeme.Name k → stmt most (suc r) (t ∷ i) ≡ and_then (a_known_path most r (t ∷ i)) (λ p. run most r (parts most r (stmt most r)) (behind_target t.at p))
+by_name : (most r : ℕ) (t : Tok) (k : NameKind) (i : List Tok) → t.lexeme ≡ lexeme.Name k → stmt most (suc r) (t ∷ i) ≡ and_then (a_known_path most r (t ∷ i)) (λ p. run most r (part most r (stmt most r)) (behind_target t.at p))
 unfolding stmt stmt_in path_stmt
-by_name most r t k i h = ap (λ q. run most r (parts most r (stmt most r)) (stmt_by (Some q)) (t ∷ i)) h
+by_name most r t k i h = ap (λ q. run most r (part most r (stmt most r)) (stmt_by (Some q)) (t ∷ i)) h
 
 -- where there is room for a name
 pub stmt_on_is : (most r : ℕ) → 2 ≤ r → (t : Tok) (k : NameKind) (i : List Tok) → t.lexeme ≡ lexeme.Name k → stmt most r (t ∷ i) ≡ stmt_on most r (t.at, k) i
 unfolding stmt_on stmt_from a_path_on
 stmt_on_is most zero fits t k i h = absurd (omega (arith, fits))
 stmt_on_is most (suc zero) fits t k i h = absurd (omega (arith, fits))
-stmt_on_is most (suc (suc r)) fits t k i h = by_name most (suc r) t k i h ∙ ap (λ o. and_then o (λ p. run most (suc r) (parts most (suc r) (stmt most (suc r))) (behind_target t.at p))) (a_path_on_is most r t k i h)
+stmt_on_is most (suc (suc r)) fits t k i h = by_name most (suc r) t k i h ∙ ap (λ o. and_then o (λ p. run most (suc r) (part most (suc r) (stmt most (suc r))) (behind_target t.at p))) (a_path_on_is most r t k i h)
 
 -- where there is none, nothing is read
-low_never : (most : ℕ) (t : Tok) (k : NameKind) (i : List Tok) (y : Tall StmtTree × List Tok) → t.lexeme ≡ lexeme.Name k → stmt most 1 (t ∷ i) ≡ Ok y → ⊥
+low_never : (most : ℕ) (t : Tok) (k : NameKind) (i : List Tok) (y : WithHeight StmtTree × List Tok) → t.lexeme ≡ lexeme.Name k → stmt most 1 (t ∷ i) ≡ Ok y → ⊥
 unfolding a_known_path
-low_never most t k i y h g = bind_ok (a_known_path most 0 (t ∷ i)) _ y (sym (by_name most 0 t k i h) ∙ g) (λ p j e _. none_never (ExprTree × NameKind) starts_path (t ∷ i) (p, j) e)
+low_never most t k i y h g = bind_ok (a_known_path most 0 (t ∷ i)) _ y (sym (by_name most 0 t k i h) ∙ g) (λ p j e _. none_never (ExprTree × NameKind) path_starts (t ∷ i) (p, j) e)
 
-low_on : (most r : ℕ) (first : ℕ × NameKind) (i : List Tok) (y : Tall StmtTree × List Tok) → r ≤ 1 → stmt_on most r first i ≡ Ok y → ⊥
+low_on : (most r : ℕ) (first : ℕ × NameKind) (i : List Tok) (y : WithHeight StmtTree × List Tok) → r ≤ 1 → stmt_on most r first i ≡ Ok y → ⊥
 unfolding stmt_on stmt_from a_path_on
 low_on most zero first i y low h = cc
 low_on most (suc zero) first i y low h = cc
 low_on most (suc (suc r)) first i y low h = omega (arith, low)
 
 -- what is read behind the name is, with the name, a statement
-pub stmt_on_sound : SetLaws → (most r : ℕ) (t : Tok) (k : NameKind) → t.lexeme ≡ lexeme.Name k → (i : List Tok) (x : Tall StmtTree) (j : List Tok) → stmt_on most r (t.at, k) i ≡ Ok (x, j) → ReadAs stmt_spelling IsStmt stmt_height r (t ∷ i) x j
+pub stmt_on_sound : SetLaws → (most r : ℕ) (t : Tok) (k : NameKind) → t.lexeme ≡ lexeme.Name k → (i : List Tok) (x : WithHeight StmtTree) (j : List Tok) → stmt_on most r (t.at, k) i ≡ Ok (x, j) → ReadAs stmt_spelling IsStmt stmt_height r (t ∷ i) x j
 stmt_on_sound sets most zero t k is i x j h = absurd (low_on most 0 (t.at, k) i (x, j) (omega arith) h)
 stmt_on_sound sets most (suc zero) t k is i x j h = absurd (low_on most 1 (t.at, k) i (x, j) (omega arith) h)
 stmt_on_sound sets most (suc (suc r)) t k is i x j h = (stmt_sound sets most (suc (suc r))).at (t ∷ i) x j (stmt_on_is most (suc (suc r)) (omega arith) t k i is ∙ h)

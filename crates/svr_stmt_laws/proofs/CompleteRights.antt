@@ -12,28 +12,29 @@ use Rattle.svr_tree.specs.ExprTree.{ExprTree, ExprTrees, no_exprs, more_exprs, e
 use Rattle.svr_tree.specs.ExprGrammar.{expr_spelling, exprs_spelling, exprs_followed, IsExpr, AreExprs, EachIsExpr, expr_height, exprs_height}
 use Rattle.svr_tree.specs.ItemTree.{ItemTrees}
 use Rattle.svr_tree.specs.ItemGrammar.{IsPath}
-use Rattle.svr_expr.specs.declared.link.Link.{Link}
+use Rattle.svr_expr.specs.declared.connective.Connective.{Connective}
 use Rattle.svr_tree.specs.StmtTree.{RightTree, RandomizeTree, StmtTree, value, new, new_array, pattern, answer}
 use Rattle.svr_tree.specs.StmtGrammar.{args_spelling, with_spelling, randomize_spelling, value_spelling, right_spelling, AreArgs, IsWith, IsRandomize, IsRight, randomize_height, right_height, with_height}
+use Rattle.svr_reader.specs.Outcomes.{Outcome, Parser, lexeme_at, number_at}
 use Rattle.svr_reader.specs.declared.fixed.Fixed.TheVariants as f
-use Rattle.svr_reader.specs.Program.{Outcome, Parser, lexeme_at, number_at, run}
-use Rattle.svr_reader.specs.Steps.{same_mark, is_fixed, sees, expect}
-use Rattle.svr_reader.specs.Lists.{Tall}
+use Rattle.svr_reader.specs.Program.{run, expect}
+use Rattle.svr_reader.specs.Steps.{same_mark, is_fixed, sees}
+use Rattle.svr_reader.specs.Lists.{WithHeight}
 use Rattle.svr_reader.proofs.Steps.{bind_ok, bind_is, takes_append, takes_parts, takes_less, lexeme_of, fixed_is, expects, led_takes, led_no, choose_true, choose_false}
 use Rattle.svr_reader.proofs.Layers.{IsComplete}
-use Rattle.svr_expr.specs.Links.{link_of, binds}
-use Rattle.svr_expr.specs.ExprRules.{an_expr, rest_of, links_of, node, expr, a_known_path, some_exprs, starts, starts_path}
+use Rattle.svr_expr.specs.Connectives.{connective_of, binds}
+use Rattle.svr_expr.specs.ExprRules.{an_expr, rest_of_path, rest_of_operand, node, expr, a_known_path, some_exprs, expr_starts, path_starts, owner, with_parens}
 use Rattle.svr_expr_laws.proofs.Trees.{height_pos, level_pos, list_of, list_is, begins}
 use Rattle.svr_expr_laws.proofs.Sound.{a_known_path_sound}
 use Rattle.svr_expr_laws.proofs.CompleteParts.{EndsList, before_mark, sees_none}
 use Rattle.svr_expr_laws.proofs.Complete.{expr_complete}
-use Rattle.svr_expr_laws.proofs.Nodes.{rest_is, links_are, some_exprs_complete}
+use Rattle.svr_expr_laws.proofs.Nodes.{rest_is, some_exprs_complete}
 use Rattle.svr_stmt.specs.declared.method.Method.{Method}
 use Rattle.svr_stmt.specs.declared.method.Method.TheVariants as built
-use Rattle.svr_stmt.specs.StmtRules.{Reader, path_method, owner, with_call, randomize_end, randomize_given, new_by, new_right, pattern_right, value_right, answer_right, is_link, behind_parens, behind_open, behind_path, path_right_by, path_right, right_by, right_in, parts}
+use Rattle.svr_stmt.specs.StmtRules.{Rule, path_method, randomize_end, randomize_given, new_by, new_right, pattern_right, value_right, answer_right, is_connective, behind_parens, behind_open, behind_path, path_right_by, path_right, right_by, right_in, part}
 use Rattle.svr_stmt_laws.proofs.Sets.{SetLaws}
 use Rattle.svr_stmt_laws.proofs.Trees.{path_high}
-use Rattle.svr_stmt_laws.proofs.Operands.{value_plain, no_call, with_call_is, rest_parens, links_stop}
+use Rattle.svr_stmt_laws.proofs.Operands.{value_plain, no_call, no_fold, rest_parens, connectives_behind, connectives_stop}
 use Rattle.svr_stmt_laws.proofs.CompleteCalls.{path_before, call_of, randomize_end_complete, randomize_given_complete}
 
 -- what a right side ends before
@@ -53,39 +54,39 @@ ends_close : (i rest : List Tok) → FitEach i (mark m.CloseBrace ∷ []) rest �
 unfolding same_mark
 ends_close i rest h = (before_mark m.CloseBrace refl i rest [] h, sees_none (f.Mark m.Comma) m.CloseBrace refl i rest [] h)
 
--- what starts an expression is no `}`
-no_brace : (i : List Tok) → starts (lexeme_at i) ≡ true → sees (f.Mark m.CloseBrace) i ≡ false
+-- what expr_starts an expression is no `}`
+no_brace : (i : List Tok) → expr_starts (lexeme_at i) ≡ true → sees (f.Mark m.CloseBrace) i ≡ false
 unfolding same_mark
 no_brace i h = by (lexeme_at i) h
   where
-    by : (q : Option Lexeme) → starts q ≡ true → is_fixed (f.Mark m.CloseBrace) q ≡ false
+    by : (q : Option Lexeme) → expr_starts q ≡ true → is_fixed (f.Mark m.CloseBrace) q ≡ false
     by (Some (lexeme.Mark m.CloseBrace)) s = absurd (cc)
     by _ s = refl
 
 -- behind `path.randomize()`, no operator follows
-no_link : (items : Option ItemTrees) (i rest : List Tok) → FitEach i (with_spelling items) rest → Semi (lexeme_at rest) → is_link (link_of (lexeme_at i)) ≡ false
-no_link None i rest h c = ap (λ z. is_link (link_of (lexeme_at z))) h ∙ ap (λ q. is_link (link_of q)) c
-no_link (Some items) [] rest h c = absurd h
-no_link (Some items) (t ∷ i) rest h c = ap (λ q. is_link (link_of (Some q))) h.0
+no_connective : (items : Option ItemTrees) (i rest : List Tok) → FitEach i (with_spelling items) rest → Semi (lexeme_at rest) → is_connective (connective_of (lexeme_at i)) ≡ false
+no_connective None i rest h c = ap (λ z. is_connective (connective_of (lexeme_at z))) h ∙ ap (λ q. is_connective (connective_of q)) c
+no_connective (Some items) [] rest h c = absurd h
+no_connective (Some items) (t ∷ i) rest h c = ap (λ q. is_connective (connective_of (Some q))) h.0
 
-module _ (sets : SetLaws) (most r : ℕ) (roomy : r ≤ most) (below : Parser (Tall StmtTree)) where
-  abbrev R : {A : Type 0} → Reader A → Parser A
-  R p = run most r (parts most r below) p
+module _ (sets : SetLaws) (most r : ℕ) (roomy : r ≤ most) (below : Parser (WithHeight StmtTree)) where
+  abbrev R : {A : Type 0} → Rule A → Parser A
+  R p = run most r (part most r below) p
 
   expr_read : (x : ExprTree) (i rest : List Tok) → length i ≤ most + length rest → IsExpr x → expr_height x ≤ r → FitEach i (expr_spelling x) rest → binds (lexeme_at rest) < 1 → expr most r 1 i ≡ Ok ((x, expr_height x), rest)
   expr_read x i rest few is low h c = (expr_complete most r roomy 1 (omega arith)).at x i rest few (is, level_pos x) low h c
 
   -- ---- which way is taken
 
-  right_by_path : (q : Option Lexeme) (i : List Tok) → starts_path q ≡ true → R (right_by q) i ≡ R path_right i
+  right_by_path : (q : Option Lexeme) (i : List Tok) → path_starts q ≡ true → R (right_by q) i ≡ R path_right i
   right_by_path (Some (lexeme.Word w.New)) i s = absurd (cc)
   right_by_path (Some (lexeme.Mark m.OpenPattern)) i s = absurd (cc)
-  right_by_path q i s = choose_true most r (parts most r below) (starts_path q) path_right (value_right (an_expr 1)) i s
+  right_by_path q i s = choose_true most r (part most r below) (path_starts q) path_right (value_right (an_expr 1)) i s
 
-  right_by_start : (q : Option Lexeme) (i : List Tok) → starts q ≡ true → starts_path q ≡ false → R (right_by q) i ≡ R (value_right (an_expr 1)) i
+  right_by_start : (q : Option Lexeme) (i : List Tok) → expr_starts q ≡ true → path_starts q ≡ false → R (right_by q) i ≡ R (value_right (an_expr 1)) i
   right_by_start (Some (lexeme.Word w.New)) i s none = absurd (cc)
   right_by_start (Some (lexeme.Mark m.OpenPattern)) i s none = absurd (cc)
-  right_by_start q i s none = choose_false most r (parts most r below) (starts_path q) path_right (value_right (an_expr 1)) i none
+  right_by_start q i s none = choose_false most r (part most r below) (path_starts q) path_right (value_right (an_expr 1)) i none
 
   -- ---- `new` and patterns
 
@@ -95,7 +96,7 @@ module _ (sets : SetLaws) (most r : ℕ) (roomy : r ≤ most) (below : Parser (T
   new_complete false (t ∷ i) rest h c = ap (λ q. R (right_by (Some q)) (t ∷ i)) h.0 ∙ ap (λ q. R (new_by q) i) (ap lexeme_at h.1 ∙ c) ∙ ap (λ z. Ok ((new false, 0), z)) h.1
   new_complete true (t ∷ []) rest h c = absurd h.1
   new_complete true (t ∷ (u ∷ i)) rest h c = ap (λ q. R (right_by (Some q)) (t ∷ (u ∷ i))) h.0 ∙ ap (λ q. R (new_by (Some q)) (u ∷ i)) h.1.0
-      ∙ bind_is (R (expect (f.Mark m.CloseParen)) i) _ tt rest _ (expects most r (parts most r below) (f.Mark m.CloseParen) i rest h.1.1) refl
+      ∙ bind_is (R (expect (f.Mark m.CloseParen)) i) _ tt rest _ (expects most r (part most r below) (f.Mark m.CloseParen) i rest h.1.1) refl
 
   new_array_complete : (n : ExprTree) (i rest : List Tok) → length i ≤ most + length rest → IsExpr n → expr_height n ≤ r → FitEach i (right_spelling (new_array n)) rest → R (right_by (lexeme_at i)) i ≡ Ok ((new_array n, expr_height n), rest)
   unfolding new_right
@@ -106,7 +107,7 @@ module _ (sets : SetLaws) (most r : ℕ) (roomy : r ≤ most) (below : Parser (T
       let z1 = takes_less a.0 (mark m.CloseBracket ∷ []) rest a.2 in
       ap (λ q. R (right_by (Some q)) (t ∷ (u ∷ i))) h.0 ∙ ap (λ q. R (new_by (Some q)) (u ∷ i)) h.1.0
       ∙ bind_is (expr most r 1 i) _ (n, expr_height n) a.0 _ (expr_read n i a.0 (omega (arith, few, z1)) is low a.1 (before_mark m.CloseBracket refl a.0 rest [] a.2))
-      (bind_is (R (expect (f.Mark m.CloseBracket)) a.0) _ tt rest _ (expects most r (parts most r below) (f.Mark m.CloseBracket) a.0 rest a.2) refl)
+      (bind_is (R (expect (f.Mark m.CloseBracket)) a.0) _ tt rest _ (expects most r (part most r below) (f.Mark m.CloseBracket) a.0 rest a.2) refl)
 
   pattern_some : (at : ℕ) (x : ExprTree) (xs : List ExprTree) (t : Tok) (i rest : List Tok) → length i ≤ most + length rest → AreExprs (exprs_of (x ∷ xs)) → exprs_height (exprs_of (x ∷ xs)) ≤ r → t.at ≡ at → FitEach i (exprs_spelling (exprs_of (x ∷ xs)) ++ mark m.CloseBrace ∷ []) rest
       → R pattern_right (t ∷ i) ≡ Ok ((pattern at (exprs_of (x ∷ xs)), exprs_height (exprs_of (x ∷ xs))), rest)
@@ -116,15 +117,15 @@ module _ (sets : SetLaws) (most r : ℕ) (roomy : r ≤ most) (below : Parser (T
       let a = takes_parts i (exprs_spelling es) (mark m.CloseBrace ∷ []) rest h in
       let z1 = takes_less a.0 (mark m.CloseBrace ∷ []) rest a.2 in
       let first = takes_parts i (expr_spelling x) (exprs_followed (exprs_of xs)) a.0 a.1 in
-      led_no most r (parts most r below) (f.Mark m.CloseBrace) _ _ i (no_brace i (begins x i first.0 is.0 first.1).first)
+      led_no most r (part most r below) (f.Mark m.CloseBrace) _ _ i (no_brace i (begins x i first.0 is.0 first.1).first)
       ∙ bind_is (some_exprs most r i) _ (x ∷ xs, exprs_height es) a.0 _ ((some_exprs_complete most r roomy).at (x ∷ xs) i a.0 (omega (arith, few, z1)) is low a.1 (ends_close a.0 rest a.2))
-      (bind_is (R (expect (f.Mark m.CloseBrace)) a.0) _ tt rest _ (expects most r (parts most r below) (f.Mark m.CloseBrace) a.0 rest a.2) (ap (λ v. Ok ((pattern v es, exprs_height es), rest)) n))
+      (bind_is (R (expect (f.Mark m.CloseBrace)) a.0) _ tt rest _ (expects most r (part most r below) (f.Mark m.CloseBrace) a.0 rest a.2) (ap (λ v. Ok ((pattern v es, exprs_height es), rest)) n))
 
   pattern_complete : (at : ℕ) (es : ExprTrees) (i rest : List Tok) → length i ≤ most + length rest → EachIsExpr es → exprs_height es ≤ r → FitEach i (right_spelling (pattern at es)) rest → R (right_by (lexeme_at i)) i ≡ Ok ((pattern at es, exprs_height es), rest)
   unfolding pattern_right
   pattern_complete at es [] rest few is low h = absurd h
   pattern_complete at no_exprs (t ∷ i) rest few is low h = ap (λ q. R (right_by (Some q)) (t ∷ i)) h.0.1
-      ∙ led_takes most r (parts most r below) (f.Mark m.CloseBrace) _ _ i rest h.1 ∙ ap (λ v. Ok ((pattern v no_exprs, 0), rest)) h.0.0
+      ∙ led_takes most r (part most r below) (f.Mark m.CloseBrace) _ _ i rest h.1 ∙ ap (λ v. Ok ((pattern v no_exprs, 0), rest)) h.0.0
   pattern_complete at (more_exprs x xs) (t ∷ i) rest few is low h =
       let back = sym (list_is xs) in
       ap (λ q. R (right_by (Some q)) (t ∷ i)) h.0.1
@@ -142,19 +143,19 @@ module _ (sets : SetLaws) (most r : ℕ) (roomy : r ≤ most) (below : Parser (T
   behind_call at p args.Empty items i rest few are is low h c =
       let a = takes_parts i (mark m.CloseParen ∷ []) (with_spelling items) rest h in
       let a1 = takes_less i (mark m.CloseParen ∷ []) a.0 a.1 in
-      led_takes most r (parts most r below) (f.Mark m.CloseParen) _ _ i a.0 a.1
-      ∙ choose_false most r (parts most r below) (is_link (link_of (lexeme_at a.0))) _ _ a.0 (no_link items a.0 rest a.2 c)
+      led_takes most r (part most r below) (f.Mark m.CloseParen) _ _ i a.0 a.1
+      ∙ choose_false most r (part most r below) (is_connective (connective_of (lexeme_at a.0))) _ _ a.0 (no_connective items a.0 rest a.2 c)
       ∙ bind_is (R (randomize_end p args.Empty) a.0) _ (call_of sets most r roomy below (owner p) args.Empty items, max 1 (with_height items)) rest _
       (randomize_end_complete sets most r roomy below p args.Empty items a.0 rest (omega (arith, few, a1)) is low a.2 (semi_no_with (lexeme_at rest) c)) refl
   behind_call at p args.Null items i rest few are is low h c =
       let d = randomize_given_complete sets most r roomy below p args.Null items i rest few (λ e. absurd (cc)) are is low h (semi_no_with (lexeme_at rest) c) in
-      led_no most r (parts most r below) (f.Mark m.CloseParen) _ _ i d.0 ∙ bind_is (R (randomize_given p) i) _ (call_of sets most r roomy below (owner p) args.Null items, max 1 (with_height items)) rest _ d.1 refl
+      led_no most r (part most r below) (f.Mark m.CloseParen) _ _ i d.0 ∙ bind_is (R (randomize_given p) i) _ (call_of sets most r roomy below (owner p) args.Null items, max 1 (with_height items)) rest _ d.1 refl
   behind_call at p (args.Names ns) items i rest few are is low h c =
       let d = randomize_given_complete sets most r roomy below p (args.Names ns) items i rest few (λ e. absurd (cc)) are is low h (semi_no_with (lexeme_at rest) c) in
-      led_no most r (parts most r below) (f.Mark m.CloseParen) _ _ i d.0 ∙ bind_is (R (randomize_given p) i) _ (call_of sets most r roomy below (owner p) (args.Names ns) items, max 1 (with_height items)) rest _ d.1 refl
+      led_no most r (part most r below) (f.Mark m.CloseParen) _ _ i d.0 ∙ bind_is (R (randomize_given p) i) _ (call_of sets most r roomy below (owner p) (args.Names ns) items, max 1 (with_height items)) rest _ d.1 refl
 
   answered : (p : ExprTree) (c : RandomizeTree) (rest : List Tok) → owner p ≡ c.path → IsPath c.path
-      → ◌≡◌ {A = Outcome (Tall RightTree)} (Ok ((answer (call_of sets most r roomy below (owner p) c.args c.items), max 1 (with_height c.items)), rest)) (Ok ((answer c, randomize_height c), rest))
+      → ◌≡◌ {A = Outcome (WithHeight RightTree)} (Ok ((answer (call_of sets most r roomy below (owner p) c.args c.items), max 1 (with_height c.items)), rest)) (Ok ((answer c, randomize_height c), rest))
   answered p c rest e is = ap (λ v. Ok ((answer (call_of sets most r roomy below v c.args c.items), max 1 (with_height c.items)), rest)) e ∙ ap (λ v. Ok ((answer c, max v (with_height c.items)), rest)) (sym (path_high c.path is))
 
   answer_complete : (c : RandomizeTree) (i rest : List Tok) → length i ≤ most + length rest → IsRandomize c → randomize_height c ≤ r → FitEach i (randomize_spelling c) rest → Semi (lexeme_at rest) → R (right_by (lexeme_at i)) i ≡ Ok ((answer c, randomize_height c), rest)
@@ -168,68 +169,68 @@ module _ (sets : SetLaws) (most r : ℕ) (roomy : r ≤ most) (below : Parser (T
       let a2 = d.less in
       right_by_path (lexeme_at i) i d.first
       ∙ bind_is (a_known_path most r i) _ d.p d.mid _ d.known
-      (ap (λ o. R (path_right_by (number_at i) d.p.0 o) d.mid) d.ends
-      ∙ led_takes most r (parts most r below) (f.Mark m.OpenParen) _ _ d.mid a.0 a.1
+      (ap (λ o. R (path_right_by (number_at i) d.p o) d.mid) d.ends
+      ∙ led_takes most r (part most r below) (f.Mark m.OpenParen) _ _ d.mid a.0 a.1
       ∙ behind_call (number_at i) d.p.0 c.args c.items a.0 rest (omega (arith, few, a1, a2)) is.1 is.2 (omega (arith, low)) a.2 n
       ∙ answered d.p.0 c rest d.short is.0)
 
   -- ---- expressions
 
   module _ (e : ExprTree) (i rest : List Tok) (spelled : FitEach i (value_spelling e) rest) (fits : 1 ≤ r) (p : ExprTree × NameKind) (mid : List Tok) (known : a_known_path most r i ≡ Ok (p, mid))
-      (read : node most r (rest_of (number_at i) (p.0, 1)) mid ≡ Ok ((e, expr_height e), rest)) where
+      (read : node most r (rest_of_path (number_at i) p) mid ≡ Ok ((e, expr_height e), rest)) where
     some : 1 ≤ most
     some = omega (arith, fits, roomy)
 
-    at_path : R (behind_path (number_at i) p.0) mid ≡ Ok ((value e, expr_height e), rest)
+    at_path : R (behind_path (number_at i) p) mid ≡ Ok ((value e, expr_height e), rest)
     unfolding behind_path value_right
-    at_path = bind_is (node most r (rest_of (number_at i) (p.0, 1)) mid) _ (e, expr_height e) rest _ read refl
+    at_path = bind_is (node most r (rest_of_path (number_at i) p) mid) _ (e, expr_height e) rest _ read refl
 
     -- `path.randomize()` is an operand
     at_operand : path_method p ≡ Some built.Randomize → (z0 z : List Tok) → FitEach mid (mark m.OpenParen ∷ []) z0 → FitEach z0 (mark m.CloseParen ∷ []) z → R (behind_parens (number_at i) p.0) z ≡ Ok ((value e, expr_height e), rest)
     unfolding behind_parens value_right
     at_operand is z0 z a b =
-        let linked : node most r (links_of (number_at i) (with_call p.0, 1)) z ≡ Ok ((e, expr_height e), rest) = subst (λ v. node most r (links_of (number_at i) (v, 1)) z ≡ Ok ((e, expr_height e), rest)) (with_call_is (a_known_path_sound most r i p mid known).0)
-        (sym (links_are most r (number_at i) (p.0, 1) mid z fits some (takes_append mid (mark m.OpenParen ∷ []) (mark m.CloseParen ∷ []) z0 z a b)) ∙ read) in
-        by (is_link (link_of (lexeme_at z))) refl linked
+        let linked : node most r (rest_of_operand (number_at i) (with_parens p.0, 1)) z ≡ Ok ((e, expr_height e), rest) =
+        sym (connectives_behind most r (number_at i) i p mid z known (no_fold p built.Randomize is) fits some (takes_append mid (mark m.OpenParen ∷ []) (mark m.CloseParen ∷ []) z0 z a b)) ∙ read in
+        by (is_connective (connective_of (lexeme_at z))) refl linked
       where
-        none_of : (o : Option Link) → is_link o ≡ false → o ≡ None
+        none_of : (o : Option Connective) → is_connective o ≡ false → o ≡ None
         none_of None w = refl
         none_of (Some k) w = absurd (cc)
 
-        both : {a b : ExprTree} {n k : ℕ} {u v : List Tok} → ◌≡◌ {A = Outcome (Tall ExprTree)} (Ok ((a, n), u)) (Ok ((b, k), v)) → a ≡ b
-        both {a} {b} {n} {k} {u} {v} q = let pair : ◌≡◌ {A = Tall ExprTree × List Tok} ((a, n), u) ((b, k), v) = cc in ap (λ y. y.0.0) pair
+        both : {a b : ExprTree} {n k : ℕ} {u v : List Tok} → ◌≡◌ {A = Outcome (WithHeight ExprTree)} (Ok ((a, n), u)) (Ok ((b, k), v)) → a ≡ b
+        both {a} {b} {n} {k} {u} {v} q = let pair : ◌≡◌ {A = WithHeight ExprTree × List Tok} ((a, n), u) ((b, k), v) = cc in ap (λ y. y.0.0) pair
 
-        by : (b : Bool) → is_link (link_of (lexeme_at z)) ≡ b → node most r (links_of (number_at i) (with_call p.0, 1)) z ≡ Ok ((e, expr_height e), rest) → R (behind_parens (number_at i) p.0) z ≡ Ok ((value e, expr_height e), rest)
-        by true w g = choose_true most r (parts most r below) (is_link (link_of (lexeme_at z))) _ _ z w ∙ bind_is (node most r (links_of (number_at i) (with_call p.0, 1)) z) _ (e, expr_height e) rest _ g refl
+        by : (b : Bool) → is_connective (connective_of (lexeme_at z)) ≡ b → node most r (rest_of_operand (number_at i) (with_parens p.0, 1)) z ≡ Ok ((e, expr_height e), rest) → R (behind_parens (number_at i) p.0) z ≡ Ok ((value e, expr_height e), rest)
+        by true w g = choose_true most r (part most r below) (is_connective (connective_of (lexeme_at z))) _ _ z w ∙ bind_is (node most r (rest_of_operand (number_at i) (with_parens p.0, 1)) z) _ (e, expr_height e) rest _ g refl
         by false w g =
-            let stop = links_stop most r (number_at i) (with_call p.0, 1) z some fits (none_of (link_of (lexeme_at z)) w) in
-            let same : with_call p.0 ≡ e = both (sym stop ∙ g) in
+            let stop = connectives_stop most r (number_at i) (with_parens p.0, 1) z some fits (none_of (connective_of (lexeme_at z)) w) in
+            let same : with_parens p.0 ≡ e = both (sym stop ∙ g) in
             absurd (no_call most r i p mid known rest (subst (λ v. FitEach i (value_spelling v) rest) (sym same) spelled) is)
 
-    at_paren : path_method p ≡ Some built.Randomize → (b : Bool) → sees (f.Mark m.OpenParen) mid ≡ b → R (path_right_by (number_at i) p.0 (Some built.Randomize)) mid ≡ Ok ((value e, expr_height e), rest)
+    at_paren : path_method p ≡ Some built.Randomize → (b : Bool) → sees (f.Mark m.OpenParen) mid ≡ b → R (path_right_by (number_at i) p (Some built.Randomize)) mid ≡ Ok ((value e, expr_height e), rest)
     unfolding behind_open
-    at_paren is false seen = led_no most r (parts most r below) (f.Mark m.OpenParen) _ _ mid seen ∙ at_path
+    at_paren is false seen = led_no most r (part most r below) (f.Mark m.OpenParen) _ _ mid seen ∙ at_path
     at_paren is true seen = by mid refl (fixed_is (f.Mark m.OpenParen) (lexeme_at mid) seen)
       where
-        by : (k : List Tok) → k ≡ mid → lexeme_at mid ≡ Some (lexeme.Mark m.OpenParen) → R (path_right_by (number_at i) p.0 (Some built.Randomize)) mid ≡ Ok ((value e, expr_height e), rest)
+        by : (k : List Tok) → k ≡ mid → lexeme_at mid ≡ Some (lexeme.Mark m.OpenParen) → R (path_right_by (number_at i) p (Some built.Randomize)) mid ≡ Ok ((value e, expr_height e), rest)
         by [] same k = absurd (let none : None ≡ Some (lexeme.Mark m.OpenParen) = ap lexeme_at same ∙ k in cc)
         by (t ∷ z0) same k =
             let first : Some t.lexeme ≡ Some (lexeme.Mark m.OpenParen) = ap lexeme_at same ∙ k in
             let is2 : t.lexeme ≡ lexeme.Mark m.OpenParen = cc in
             let opened : FitEach mid (mark m.OpenParen ∷ []) z0 = subst (λ v. FitEach v (mark m.OpenParen ∷ []) z0) same (is2, refl) in
-            let d = rest_parens most r (number_at i) (p.0, 1) mid z0 (e, expr_height e) rest opened read in
-            led_takes most r (parts most r below) (f.Mark m.OpenParen) _ _ mid z0 opened
-            ∙ led_takes most r (parts most r below) (f.Mark m.CloseParen) _ _ z0 d.0 d.1
+            let d = rest_parens most r (number_at i) p mid z0 (e, expr_height e) rest (no_fold p built.Randomize is) opened read in
+            led_takes most r (part most r below) (f.Mark m.OpenParen) _ _ mid z0 opened
+            ∙ led_takes most r (part most r below) (f.Mark m.CloseParen) _ _ z0 d.0 d.1
             ∙ at_operand is z0 d.0 opened d.1
 
-    by_method : (o : Option Method) → path_method p ≡ o → R (path_right_by (number_at i) p.0 o) mid ≡ Ok ((value e, expr_height e), rest)
+    by_method : (o : Option Method) → path_method p ≡ o → R (path_right_by (number_at i) p o) mid ≡ Ok ((value e, expr_height e), rest)
     by_method None is = at_path
     by_method (Some (built.Mode k)) is = at_path
     by_method (Some built.Randomize) is = at_paren is (sees (f.Mark m.OpenParen) mid) refl
 
   value_complete : (e : ExprTree) (i rest : List Tok) → length i ≤ most + length rest → IsExpr e → expr_height e ≤ r → FitEach i (value_spelling e) rest → Semi (lexeme_at rest) → R (right_by (lexeme_at i)) i ≡ Ok ((value e, expr_height e), rest)
   unfolding path_right value_right
-  value_complete e i rest few is low h c = by (starts_path (lexeme_at i)) refl
+  value_complete e i rest few is low h c = by (path_starts (lexeme_at i)) refl
     where
       plain : FitEach i (expr_spelling e) rest
       plain = value_plain e i rest is h
@@ -240,11 +241,11 @@ module _ (sets : SetLaws) (most r : ℕ) (roomy : r ≤ most) (below : Parser (T
       whole : expr most r 1 i ≡ Ok ((e, expr_height e), rest)
       whole = expr_read e i rest few is low plain (let z = semi_closes (lexeme_at rest) c in omega (arith, z))
 
-      by : (b : Bool) → starts_path (lexeme_at i) ≡ b → R (right_by (lexeme_at i)) i ≡ Ok ((value e, expr_height e), rest)
+      by : (b : Bool) → path_starts (lexeme_at i) ≡ b → R (right_by (lexeme_at i)) i ≡ Ok ((value e, expr_height e), rest)
       by false s = right_by_start (lexeme_at i) i (begins e i rest is plain).first s ∙ bind_is (expr most r 1 i) _ (e, expr_height e) rest _ whole refl
       by true s = right_by_path (lexeme_at i) i s
-          ∙ bind_ok (a_known_path most r i) (λ p j. node most r (rest_of (number_at i) (p.0, 1)) j) ((e, expr_height e), rest) (sym (rest_is most r fits roomy i s) ∙ whole) (λ p mid known read.
-          bind_is (a_known_path most r i) (λ p. R (path_right_by (number_at i) p.0 (path_method p))) p mid _ known (by_method e i rest h fits p mid known read (path_method p) refl))
+          ∙ bind_ok (a_known_path most r i) (λ p j. node most r (rest_of_path (number_at i) p) j) ((e, expr_height e), rest) (sym (rest_is most r fits roomy i s) ∙ whole) (λ p mid known read.
+          bind_is (a_known_path most r i) (λ p. R (path_right_by (number_at i) p (path_method p))) p mid _ known (by_method e i rest h fits p mid known read (path_method p) refl))
 
   pub right_complete : IsComplete right_spelling IsRight right_height most r Semi (R right_in)
   unfolding right_in

@@ -7,11 +7,10 @@ use Rattle.svr_token.specs.declared.NameKind.{NameKind}
 use Rattle.svr_tree.specs.Tokens.{Tok, FitEach}
 use Rattle.svr_tree.specs.StmtTree.{StmtTree}
 use Rattle.svr_tree.specs.StmtGrammar.{stmt_spelling, IsStmt, stmt_height}
-use Rattle.svr_reader.specs.Lists.{Tall}
-use Rattle.svr_reader.proofs.Local.{IsLocal}
+use Rattle.svr_reader.specs.Lists.{WithHeight}
 use Rattle.svr_reader.proofs.Live.{AnyToken}
 use Rattle.svr_reader.proofs.Layers.{ReadAs, IsSound, IsComplete, IsViable, IsOpen, IsGrowing, Part}
-use Rattle.svr_item_laws.proofs.Growth.{local_set_items, grows_set_items}
+use Rattle.svr_item_laws.proofs.Growth.{grows_set_items}
 use Rattle.svr_item_laws.proofs.Sound.{set_items_sound}
 use Rattle.svr_item_laws.proofs.CompleteItems.{set_items_complete}
 use Rattle.svr_item_laws.proofs.Live.{set_items_open}
@@ -25,7 +24,6 @@ use Rattle.svr_stmt_laws.proofs.Live as live
 
 set_laws : SetLaws
 set_laws = record {
-  local = local_set_items;
   grows = grows_set_items;
   sound = set_items_sound;
   complete = set_items_complete;
@@ -33,9 +31,6 @@ set_laws = record {
 }
 
 -- ---- statements
-
-pub local_stmt : (most r : ℕ) → IsLocal (stmt most r)
-local_stmt = growth.local_stmt set_laws
 
 pub grows_stmt : IsGrowing stmt
 grows_stmt = growth.grows_stmt set_laws
@@ -55,14 +50,11 @@ stmt_open most r many fits roomy d = live.stmt_open set_laws most r many fits ro
 
 -- ---- statements whose first name was taken already
 
-pub local_stmt_on : (most r : ℕ) (first : ℕ × NameKind) → IsLocal (stmt_on most r first)
-local_stmt_on = growth.local_stmt_on set_laws
-
 pub grows_stmt_on : (first : ℕ × NameKind) → IsGrowing (λ most r. stmt_on most r first)
 grows_stmt_on = growth.grows_stmt_on set_laws
 
 -- with the name before it, what is read is a statement
-pub stmt_on_sound : (most r : ℕ) (t : Tok) (k : NameKind) → t.lexeme ≡ lexeme.Name k → (i : List Tok) (x : Tall StmtTree) (j : List Tok) → stmt_on most r (t.at, k) i ≡ Ok (x, j) → ReadAs stmt_spelling IsStmt stmt_height r (t ∷ i) x j
+pub stmt_on_sound : (most r : ℕ) (t : Tok) (k : NameKind) → t.lexeme ≡ lexeme.Name k → (i : List Tok) (x : WithHeight StmtTree) (j : List Tok) → stmt_on most r (t.at, k) i ≡ Ok (x, j) → ReadAs stmt_spelling IsStmt stmt_height r (t ∷ i) x j
 stmt_on_sound = behind.stmt_on_sound set_laws
 
 pub stmt_on_complete : (most r : ℕ) → r ≤ most → (t : Tok) (k : NameKind) → t.lexeme ≡ lexeme.Name k → (x : StmtTree) (i rest : List Tok) → length (t ∷ i) ≤ most + length rest → IsStmt x → stmt_height x ≤ r → FitEach (t ∷ i) (stmt_spelling x) rest

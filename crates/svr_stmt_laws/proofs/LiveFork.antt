@@ -2,9 +2,9 @@
 use Rattle.std.proofs.Common.{◌≡◌, ℕ, ◌<◌, Bool, true, false, List, [], ◌∷◌, ◌++◌, length, Option, Ok, Err, ◌⊎◌, inl, inr, sym, ◌∙◌, ap, arith}
 use Rattle.svr_token.specs.declared.Lexeme.{Lexeme}
 use Rattle.svr_tree.specs.Tokens.{Tok}
-use Rattle.svr_reader.specs.declared.fault.ReadFault.TheVariants.{NoMemory}
-use Rattle.svr_reader.specs.Program.{Program, bind, peek, Outcome, Parser, and_then, lexeme_at, run}
-use Rattle.svr_reader.specs.Steps.{choose}
+use Rattle.svr_reader.specs.Lists.{choose}
+use Rattle.svr_reader.specs.Outcomes.{Stuck, Outcome, Parser, and_then, lexeme_at}
+use Rattle.svr_reader.specs.Program.{Program, bind, peek, run}
 use Rattle.svr_reader.proofs.Steps.{choose_ok, choose_true, choose_false}
 use Rattle.svr_reader.proofs.Local.{IsLocal}
 use Rattle.svr_reader.proofs.Live.{Completes, same_front}
@@ -80,7 +80,7 @@ module _ {K : Type 0} {Ans : K → Type 0} (most r : ℕ) (sub : (k : K) → Par
                 good = d.good;
                 ends = λ s cl. unmet (d.front ++ (d.more ++ s)) (ap f (same_front most C C Q i d.front d.j (d.more ++ s) d.is (omega (arith, below, d.len))) ∙ w) ∙ d.ends s cl;
               });
-          safe = λ i lim h. cases i (Err NoMemory) h (λ w g. v.alive.later.safe i lim g) (λ w g. u.alive.later.safe i lim g);
+          safe = λ i lim h. cases i (Err Stuck) h (λ w g. v.alive.later.safe i lim g) (λ w g. u.alive.later.safe i lim g);
         };
       };
       settles = record {

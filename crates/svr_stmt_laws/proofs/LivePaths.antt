@@ -10,21 +10,19 @@ use Rattle.svr_tree.specs.declared.expr.Scope.{Scope}
 use Rattle.svr_tree.specs.declared.expr.Scope.TheVariants as scope
 use Rattle.svr_tree.specs.Tokens.{Tok, On, Any, FitEach}
 use Rattle.svr_tree.specs.ExprTree.{ExprTree, path}
+use Rattle.svr_reader.specs.Outcomes.{Stop, Stuck, Unexpected, Turn, go, done, Outcome, Parser, and_then, lexeme_at, turned, turns}
 use Rattle.svr_reader.specs.declared.fixed.Fixed.{Fixed}
 use Rattle.svr_reader.specs.declared.fixed.Fixed.TheVariants as f
-use Rattle.svr_reader.specs.declared.fault.ReadFault.{ReadFault}
-use Rattle.svr_reader.specs.declared.fault.ReadFault.TheVariants.{NoMemory, Unexpected}
-use Rattle.svr_reader.specs.Program.{Turn, go, done, Program, pure, bind, Outcome, Parser, and_then, lexeme_at, turned, turns, run}
-use Rattle.svr_reader.specs.Steps.{fixed_lexeme, expect}
-use Rattle.svr_reader.proofs.Steps.{bind_ok, bind_is, turn_ok, lexeme_on, led_yes, led_no, led_cases, expects, expect_ok}
+use Rattle.svr_reader.specs.Program.{Program, pure, bind, run, expect, known_name}
+use Rattle.svr_reader.specs.Steps.{fixed_lexeme, named_by, named}
+use Rattle.svr_reader.proofs.Steps.{bind_ok, bind_is, turn_ok, lexeme_on, led_yes, led_no, led_cases, expects, expect_ok, known_name_sound, known_name_complete}
 use Rattle.svr_reader.proofs.Local.{IsLocal, local_run}
 use Rattle.svr_reader.proofs.Live.{FaultsAt, fault_len, AnyToken, Completes, Later, Finishes, Alive, bind_err, behind_token, later_bind, finishes_bind, alive_bind, later_take, later_here, later_peek}
-use Rattle.svr_reader.proofs.Led.{AnyAnswer, tok, goal_expect}
-use Rattle.svr_expr.specs.ExprRules.{known_name_by, known_name, name_step, names_on, path_from, path_on, plain_path, local_path, this_path, known_path_by, known_path, expr, a_known_path}
-use Rattle.svr_expr_laws.proofs.Names.{known_name_sound, known_name_complete}
-use Rattle.svr_expr_laws.proofs.Growth.{local_expr}
+use Rattle.svr_reader.proofs.Led.{AnyAnswer, tok, goal_expect, known_name_form, known_name_goal}
+use Rattle.svr_expr.specs.ExprRules.{name_step, names_on, path_from, path_on, plain_path, local_path, this_path, known_path_by, known_path, expr, a_known_path}
+use Rattle.svr_expr.proofs.Local.{local_expr}
 use Rattle.svr_expr_laws.proofs.Nodes.{NotDot}
-use Rattle.svr_expr_laws.proofs.LiveParts.{known_name_form, known_name_goal, names_on_goal}
+use Rattle.svr_expr_laws.proofs.LiveParts.{names_on_goal}
 use Rattle.svr_stmt.specs.declared.method.Method.TheVariants as built
 use Rattle.svr_stmt.specs.StmtRules.{path_method}
 use Rattle.svr_stmt_laws.proofs.Paths.{path_on_is}
@@ -119,20 +117,20 @@ module _ {K : Type 0} {Ans : K → Type 0} (most r : ℕ) (sub : (k : K) → Par
       let here : Completes NotDot EndsNames q z k = subst (λ v. Completes NotDot EndsNames q v k) (sym g.1) d in
       record { front = t ∷ (u ∷ here.front); j = here.j; is = ap (λ v. t ∷ (u ∷ v)) here.is; len = here.len; more = here.more; x = here.x; good = here.good; ends = λ v cl. whole (here.front ++ (here.more ++ v)) ∙ here.ends v cl }
 
-  name_by_fault : (q : Option Lexeme) (z : List Tok) (e : ReadFault) → lexeme_at z ≡ q → R (known_name_by q) z ≡ Err e → e ≡ Unexpected (length z)
+  name_by_fault : (q : Option Lexeme) (z : List Tok) (e : Stop) → lexeme_at z ≡ q → named_by q z ≡ Err e → e ≡ Unexpected (length z)
   name_by_fault (Some (lexeme.Name k)) [] e is h = absurd (cc)
   name_by_fault (Some (lexeme.Name k)) (t ∷ z) e is h = absurd (cc)
   name_by_fault _ z e is h = cc
 
-  name_fault : (z : List Tok) (e : ReadFault) (k : ℕ) → R known_name z ≡ Err e → FaultsAt e k → k ≡ length z
-  unfolding known_name
+  name_fault : (z : List Tok) (e : Stop) (k : ℕ) → R known_name z ≡ Err e → FaultsAt e k → k ≡ length z
+  unfolding named
   name_fault z e k h fa = fault_len e k (length z) (name_by_fault (lexeme_at z) z e refl h) fa
 
   one_less : (z j : List Tok) (x : ℕ × NameKind) → FitEach z (On x.0 (lexeme.Name x.1) ∷ []) j → length z ≡ suc (length j)
   one_less [] j x h = absurd h
   one_less (u ∷ z) j x h = ap (λ v. suc (length v)) h.1
 
-  later_names : (n : ℕ) (s : Names) → HasName s → (i : List Tok) (e : ReadFault) (k : ℕ) → length i < n → turns n step s i ≡ Err e → FaultsAt e k → Completes NotDot EndsNames (turns n step s) i k
+  later_names : (n : ℕ) (s : Names) → HasName s → (i : List Tok) (e : Stop) (k : ℕ) → length i < n → turns n step s i ≡ Err e → FaultsAt e k → Completes NotDot EndsNames (turns n step s) i k
   unfolding name_step
   later_names zero s d i e k few h fa = absurd (omega (arith, few))
   later_names (suc n) s d i e k few h fa = bind_err (step s i) (turned (turns n step)) e h
@@ -184,8 +182,8 @@ module _ {K : Type 0} {Ans : K → Type 0} (most r : ℕ) (sub : (k : K) → Par
   -- ---- paths
 
   -- behind the first name
-  abbrev named : ℕ → Scope → ℕ × NameKind → Program K Ans (ExprTree × NameKind)
-  named at s n = bind (names_on n) (λ ns. pure (path at s ns.0 false, ns.1))
+  abbrev from_name : ℕ → Scope → ℕ × NameKind → Program K Ans (ExprTree × NameKind)
+  from_name at s n = bind (names_on n) (λ ns. pure (path at s ns.0 false, ns.1))
 
   one_first : (n : ℕ × NameKind) → HasName (n.0 ∷ [], n.1)
   one_first n = record { first = n.0; others = []; is = refl }
@@ -193,18 +191,18 @@ module _ {K : Type 0} {Ans : K → Type 0} (most r : ℕ) (sub : (k : K) → Par
   abbrev as_path : ℕ → Scope → Names → ExprTree × NameKind
   as_path at s ns = (path at s ns.0 false, ns.1)
 
-  named_later : (at : ℕ) (s : Scope) (n : ℕ × NameKind) → Later most NotDot EndsCall (R (named at s n))
+  from_name_later : (at : ℕ) (s : Scope) (n : ℕ × NameKind) → Later most NotDot EndsCall (R (from_name at s n))
   unfolding names_on
-  named_later at s n = record {
+  from_name_later at s n = record {
     later = λ i e k lim h fa behind. bind_err (R (names_on n) i) _ e h
         (λ fails. completes_map NotDot EndsNames EndsCall (R (names_on n)) (as_path at s) i k (names_call at s) (later_names most (n.0 ∷ [], n.1) (one_first n) i e k lim fails fa))
         (λ x j a z. absurd (cc));
-    safe = λ i lim h. bind_err (R (names_on n) i) _ NoMemory h (λ fails. (names_on_goal most r sub ls some n).alive.later.safe i lim fails) (λ x j a z. absurd (cc));
+    safe = λ i lim h. bind_err (R (names_on n) i) _ Stuck h (λ fails. (names_on_goal most r sub ls some n).alive.later.safe i lim fails) (λ x j a z. absurd (cc));
   }
 
-  named_fin : (at : ℕ) (s : Scope) (n : ℕ × NameKind) → Finishes AnyToken NotDot EndsCall (R (named at s n))
+  from_name_fin : (at : ℕ) (s : Scope) (n : ℕ × NameKind) → Finishes AnyToken NotDot EndsCall (R (from_name at s n))
   unfolding names_on
-  named_fin at s n = record {
+  from_name_fin at s n = record {
     more = dot_tok ∷ (randomize_tok ∷ []);
     x = as_path at s (n.0 ∷ (0 ∷ []), name_kind.Randomize);
     good = refl;
@@ -214,13 +212,13 @@ module _ {K : Type 0} {Ans : K → Type 0} (most r : ℕ) (sub : (k : K) → Par
 
   path_from_later : (at : ℕ) (s : Scope) → Later most NotDot EndsCall (R (path_from at s))
   unfolding path_from
-  path_from_later at s = let v = known_name_form most r sub ls some in
-      later_bind most AnyToken AnyToken NotDot AnyAnswer EndsCall (R known_name) (λ n. R (named at s n)) (lo known_name) (λ n. lo (named at s n)) v.settles v.later (λ n _. record { fin = named_fin at s n; later = named_later at s n })
+  path_from_later at s = let v = known_name_form most r sub ls in
+      later_bind most AnyToken AnyToken NotDot AnyAnswer EndsCall (R known_name) (λ n. R (from_name at s n)) (lo known_name) (λ n. lo (from_name at s n)) v.settles v.later (λ n _. record { fin = from_name_fin at s n; later = from_name_later at s n })
 
   path_from_alive : (at : ℕ) (s : Scope) → Alive most AnyToken NotDot EndsCall (R (path_from at s))
   unfolding path_from
-  path_from_alive at s = let d = (known_name_goal most r sub ls some {D = AnyToken} tt).alive.fin in record {
-    fin = finishes_bind most AnyToken AnyToken NotDot AnyAnswer EndsCall (R known_name) (λ n. R (named at s n)) (lo known_name) (λ n. lo (named at s n)) d (named_fin at s d.x);
+  path_from_alive at s = let d = (known_name_goal most r sub ls {D = AnyToken} tt).alive.fin in record {
+    fin = finishes_bind most AnyToken AnyToken NotDot AnyAnswer EndsCall (R known_name) (λ n. R (from_name at s n)) (lo known_name) (λ n. lo (from_name at s n)) d (from_name_fin at s d.x);
     later = path_from_later at s;
   }
 
@@ -240,19 +238,19 @@ module _ {K : Type 0} {Ans : K → Type 0} (most r : ℕ) (sub : (k : K) → Par
 
   -- ---- paths that were read
 
-  named_extends : (at : ℕ) (s : Scope) (n : ℕ × NameKind) (i : List Tok) (x : ExprTree × NameKind) (j : List Tok) → length i + 1 < most → R (named at s n) i ≡ Ok (x, j) → Completes NotDot EndsCall (R (named at s n)) i (length j)
+  named_extends : (at : ℕ) (s : Scope) (n : ℕ × NameKind) (i : List Tok) (x : ExprTree × NameKind) (j : List Tok) → length i + 1 < most → R (from_name at s n) i ≡ Ok (x, j) → Completes NotDot EndsCall (R (from_name at s n)) i (length j)
   unfolding names_on
   named_extends at s n i x j lim h = bind_ok (R (names_on n) i) _ (x, j) h (λ ns mid e g.
       let both : ◌≡◌ {A = (ExprTree × NameKind) × List Tok} (as_path at s ns, mid) (x, j) = cc in
-      subst (λ z. Completes NotDot EndsCall (R (named at s n)) i (length z)) (ap (λ p. p.1) both)
+      subst (λ z. Completes NotDot EndsCall (R (from_name at s n)) i (length z)) (ap (λ p. p.1) both)
       (completes_map NotDot EndsNames EndsCall (R (names_on n)) (as_path at s) i (length mid) (names_call at s) (extend_names most (n.0 ∷ [], n.1) (one_first n) i ns mid lim e)))
 
-  behind_first : (at : ℕ) (s : Scope) (n : ℕ × NameKind) (i mid : List Tok) (k : ℕ) → FitEach i (On n.0 (lexeme.Name n.1) ∷ []) mid → Completes NotDot EndsCall (R (named at s n)) mid k → Completes NotDot EndsCall (R (path_from at s)) i k
+  behind_first : (at : ℕ) (s : Scope) (n : ℕ × NameKind) (i mid : List Tok) (k : ℕ) → FitEach i (On n.0 (lexeme.Name n.1) ∷ []) mid → Completes NotDot EndsCall (R (from_name at s n)) mid k → Completes NotDot EndsCall (R (path_from at s)) i k
   unfolding path_from
   behind_first at s n [] mid k h d = absurd h
-  behind_first at s n (t ∷ i) mid k h d = behind_token most NotDot EndsCall (R (path_from at s)) (R (named at s n)) t i k
+  behind_first at s n (t ∷ i) mid k h d = behind_token most NotDot EndsCall (R (path_from at s)) (R (from_name at s n)) t i k
       (λ v. bind_is (R known_name (t ∷ v)) _ n v _ (known_name_complete most r sub n.0 n.1 (t ∷ v) v (h.0, refl)) refl)
-      (subst (λ v. Completes NotDot EndsCall (R (named at s n)) v k) (sym h.1) d)
+      (subst (λ v. Completes NotDot EndsCall (R (from_name at s n)) v k) (sym h.1) d)
 
   from_extends : (at : ℕ) (s : Scope) (i : List Tok) (x : ExprTree × NameKind) (j : List Tok) → length i < most → R (path_from at s) i ≡ Ok (x, j) → Completes NotDot EndsCall (R (path_from at s)) i (length j)
   unfolding path_from
@@ -274,7 +272,7 @@ module _ {K : Type 0} {Ans : K → Type 0} (most r : ℕ) (sub : (k : K) → Par
   extends_by (Some (lexeme.Name k)) [] x j lim e h = absurd (cc)
   extends_by (Some (lexeme.Name k)) (t ∷ i) x j lim e h =
       let is : t.lexeme ≡ lexeme.Name k = cc in
-      behind_token most NotDot EndsCall (R known_path) (R (named t.at scope.Plain (t.at, k))) t i (length j) (λ v. path_on_is most r sub t k v is) (named_extends t.at scope.Plain (t.at, k) i x j (omega (arith, lim)) (sym (path_on_is most r sub t k i is) ∙ h))
+      behind_token most NotDot EndsCall (R known_path) (R (from_name t.at scope.Plain (t.at, k))) t i (length j) (λ v. path_on_is most r sub t k v is) (named_extends t.at scope.Plain (t.at, k) i x j (omega (arith, lim)) (sym (path_on_is most r sub t k i is) ∙ h))
   extends_by (Some (lexeme.Word w.Local)) [] x j lim e h = absurd (cc)
   extends_by (Some (lexeme.Word w.Local)) (t ∷ i) x j lim e h =
       let is : t.lexeme ≡ lexeme.Word w.Local = cc in
@@ -288,7 +286,7 @@ module _ {K : Type 0} {Ans : K → Type 0} (most r : ℕ) (sub : (k : K) → Par
       let whole : (v : List Tok) → R known_path (t ∷ v) ≡ R p v = λ v. ap (λ q. R (known_path_by (Some q)) (t ∷ v)) is in
       behind_token most NotDot EndsCall (R known_path) (R p) t i (length j) whole (mark_extends dot t.at scope.This i x j (omega (arith, lim)) (sym (whole i) ∙ h))
   extends_by q i x j lim e h = bind_ok (R known_name i) _ (x, j) (ap (λ v. R (known_path_by v) i) (sym e) ∙ h) (λ n mid e2 g.
-      let named : q ≡ Some (lexeme.Name n.1) = sym e ∙ lexeme_on i mid n.0 (lexeme.Name n.1) [] (known_name_sound most r sub i n mid e2) in absurd (cc))
+      let from_name : q ≡ Some (lexeme.Name n.1) = sym e ∙ lexeme_on i mid n.0 (lexeme.Name n.1) [] (known_name_sound most r sub i n mid e2) in absurd (cc))
 
   pub path_extends : (i : List Tok) (x : ExprTree × NameKind) (j : List Tok) → length i < most → R known_path i ≡ Ok (x, j) → Completes NotDot EndsCall (R known_path) i (length j)
   path_extends i x j lim h = extends_by (lexeme_at i) i x j lim refl h

@@ -12,12 +12,13 @@ use Rattle.svr_tree.specs.ExprGrammar.{names_spelling, scope_spelling, expr_spel
 use Rattle.svr_tree.specs.ItemGrammar.{IsPath}
 use Rattle.svr_tree.specs.declared.stmt.ModeKind.TheVariants as mode_kind
 use Rattle.svr_tree.specs.StmtGrammar.{mode_name, other_names, dotted_other}
-use Rattle.svr_reader.specs.Program.{number_at}
+use Rattle.svr_reader.specs.Outcomes.{number_at}
 use Rattle.svr_reader.proofs.Steps.{takes_append, takes_parts}
 use Rattle.svr_expr_laws.proofs.Names.{names_known, rest_known, KnownPath}
 use Rattle.svr_stmt.specs.declared.method.Method.{Method}
 use Rattle.svr_stmt.specs.declared.method.Method.TheVariants as built
-use Rattle.svr_stmt.specs.StmtRules.{method_of, path_method, all_but_last, owner}
+use Rattle.svr_expr.specs.ExprRules.{all_but_last, owner}
+use Rattle.svr_stmt.specs.StmtRules.{method_of, path_method}
 
 -- "." and the name of a method
 abbrev pub dot_name : NameKind → List Entry
@@ -89,6 +90,11 @@ method_is (built.Mode mode_kind.Constraint) = refl
 
 kind_is : (k : NameKind) (e : Method) → method_of k ≡ Some e → k ≡ method_name e
 kind_is name_kind.Plain e h = absurd (cc)
+kind_is name_kind.Sum e h = absurd (cc)
+kind_is name_kind.Product e h = absurd (cc)
+kind_is name_kind.And e h = absurd (cc)
+kind_is name_kind.Or e h = absurd (cc)
+kind_is name_kind.Xor e h = absurd (cc)
 kind_is name_kind.Randomize e h = let same : built.Randomize ≡ e = cc in ap method_name same
 kind_is name_kind.RandMode e h = let same : built.Mode mode_kind.Rand ≡ e = cc in ap method_name same
 kind_is name_kind.ConstraintMode e h = let same : built.Mode mode_kind.Constraint ≡ e = cc in ap method_name same
@@ -158,6 +164,11 @@ rest_other n (o ∷ ns) (t ∷ (u ∷ i)) j h = let d = rest_other o ns i j h.1.
 
 not_randomize : (k : NameKind) → (k ≡ name_kind.Randomize → ⊥) → method_of k ≡ Some built.Randomize → ⊥
 not_randomize name_kind.Plain w h = absurd (cc)
+not_randomize name_kind.Sum w h = absurd (cc)
+not_randomize name_kind.Product w h = absurd (cc)
+not_randomize name_kind.And w h = absurd (cc)
+not_randomize name_kind.Or w h = absurd (cc)
+not_randomize name_kind.Xor w h = absurd (cc)
 not_randomize name_kind.Randomize w h = w refl
 not_randomize name_kind.RandMode w h = absurd (cc)
 not_randomize name_kind.ConstraintMode w h = absurd (cc)

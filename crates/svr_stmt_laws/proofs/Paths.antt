@@ -9,29 +9,30 @@ use Rattle.svr_tree.specs.Tokens.{Tok, FitEach}
 use Rattle.svr_tree.specs.ExprTree.{ExprTree}
 use Rattle.svr_tree.specs.ExprGrammar.{expr_spelling, expr_height}
 use Rattle.svr_tree.specs.ItemGrammar.{IsMember}
+use Rattle.svr_reader.specs.Outcomes.{Turn, go, done, Outcome, Parser, and_then, lexeme_at, number_at}
 use Rattle.svr_reader.specs.declared.fixed.Fixed.TheVariants as f
-use Rattle.svr_reader.specs.Program.{Turn, go, done, Program, pure, bind, peek, loop, Outcome, Parser, and_then, lexeme_at, number_at, run}
-use Rattle.svr_reader.specs.Steps.{is_fixed, choose}
-use Rattle.svr_reader.specs.Lists.{Tall, led}
-use Rattle.svr_reader.proofs.Steps.{bind_ok, bind_is, choose_false}
+use Rattle.svr_reader.specs.Program.{Program, pure, bind, peek, loop, run, known_name}
+use Rattle.svr_reader.specs.Steps.{is_fixed}
+use Rattle.svr_reader.specs.Lists.{WithHeight, led, choose}
+use Rattle.svr_reader.proofs.Steps.{bind_ok, bind_is, choose_false, known_name_complete}
 use Rattle.svr_reader.proofs.Local.{IsLocal, local_run}
 use Rattle.svr_reader.proofs.Growth.{Rooms, grows_run}
-use Rattle.svr_reader.proofs.Rooms.{OpensAt, opens_refuse, opens_take, opens_bind, opens_here, opens_peek}
+use Rattle.svr_reader.proofs.Rooms.{OpensAt, opens_take, opens_name, opens_no_name, opens_bind, opens_here, opens_peek}
 use Rattle.svr_reader.proofs.Live.{AnyToken}
 use Rattle.svr_reader.proofs.LiveLoops.{Then}
 use Rattle.svr_reader.proofs.LiveTurns.{led_loop_goal}
 use Rattle.svr_reader.proofs.LivePeeks.{Peeks, reads, stops, peek_loop_goal}
 use Rattle.svr_reader.proofs.Goals.{Goal, Form, then_goal, then_form, pure_goal, enter_form}
-use Rattle.svr_reader.proofs.Led.{AnyAnswer, goal_expect}
+use Rattle.svr_reader.proofs.Led.{AnyAnswer, goal_expect, known_name_goal}
 use Rattle.svr_reader.proofs.Layers.{ReadAs, IsViable, IsOpen, IsGrowing, Part}
-use Rattle.svr_expr.specs.ExprRules.{Reader, known_name, name_step, names_on, path_from, plain_path, local_path, this_path, known_path_by, known_path, path_on, path_in, indexed, member_step, member_in, a_member, node, expr, a_known_path, a_member_on, starts_path}
-use Rattle.svr_expr_laws.proofs.Names.{known_name_complete}
+use Rattle.svr_expr.specs.ExprRules.{Rule, name_step, names_on, path_from, plain_path, local_path, this_path, known_path_by, known_path, path_on, path_in, index_on, member_step, member_in, a_member, node, expr, a_known_path, a_member_on, path_starts}
 use Rattle.svr_expr_laws.proofs.Sound.{a_member_sound}
-use Rattle.svr_expr_laws.proofs.Growth.{local_expr, grows_expr}
+use Rattle.svr_expr.proofs.Local.{local_expr}
+use Rattle.svr_expr_laws.proofs.Growth.{grows_expr}
 use Rattle.svr_expr_laws.proofs.CompleteParts.{IsCompleteExpr}
 use Rattle.svr_expr_laws.proofs.Complete.{expr_complete}
 use Rattle.svr_expr_laws.proofs.Nodes.{NotDot, NotSelect, a_member_complete}
-use Rattle.svr_expr_laws.proofs.LiveParts.{Closes, goal_sub, known_name_goal}
+use Rattle.svr_expr_laws.proofs.LiveParts.{Closes, goal_sub}
 use Rattle.svr_expr_laws.proofs.Live.{live_expr}
 
 pub regroup : {A B D : Type 0} (o : Outcome A) (g : A → Parser B) (h : B → Parser D) → and_then (and_then o g) h ≡ and_then o (λ x j. and_then (g x j) h)
@@ -58,7 +59,7 @@ module _ {K : Type 0} {Ans : K → Type 0} (most r : ℕ) (sub : (k : K) → Par
       NameEnds = Then most C C AnyAnswer (λ s. run most r sub (led (f.Mark m.Dot) (dotted_name s) (pure (done s)))) AnyAnswer
 
       dotted_goal : (s : Names) → Goal most r sub ls AnyToken C NameEnds (dotted_name s)
-      dotted_goal s = then_goal most r sub ls (known_name_goal most r sub ls some tt) (λ n _. pure_goal most r sub ls {Q = NameEnds} {x = go (s.0 ++ n.0 ∷ [], n.1)} (tt, λ _ h. h) (λ _ _. tt))
+      dotted_goal s = then_goal most r sub ls (known_name_goal most r sub ls tt) (λ n _. pure_goal most r sub ls {Q = NameEnds} {x = go (s.0 ++ n.0 ∷ [], n.1)} (tt, λ _ h. h) (λ _ _. tt))
 
       names_goal : (first : ℕ × NameKind) → Goal most r sub ls C C AnyAnswer (names_on first)
       unfolding names_on name_step
@@ -69,14 +70,14 @@ module _ {K : Type 0} {Ans : K → Type 0} (most r : ℕ) (sub : (k : K) → Par
       path_on_goal first = then_goal most r sub ls (names_goal first) (λ ns _. pure_goal most r sub ls tt (λ _ h. h))
 
     -- what a path begins with
-    path_by_opens : (q : Option Lexeme) → OpensAt most r sub ls q (starts_path q) (known_path_by q)
-    unfolding local_path this_path plain_path path_from known_name
+    path_by_opens : (q : Option Lexeme) → OpensAt most r sub ls q (path_starts q) (known_path_by q)
+    unfolding local_path this_path plain_path path_from
     path_by_opens (Some (lexeme.Word w.Local)) = opens_take most r sub ls
     path_by_opens (Some (lexeme.Word w.This)) = opens_take most r sub ls
-    path_by_opens (Some (lexeme.Name k)) = opens_here most r sub ls (λ n. opens_bind most r sub ls (opens_peek most r sub ls (opens_take most r sub ls)))
-    path_by_opens _ = opens_here most r sub ls (λ n. opens_bind most r sub ls (opens_peek most r sub ls (opens_refuse most r sub ls)))
+    path_by_opens (Some (lexeme.Name k)) = opens_here most r sub ls (λ n. opens_bind most r sub ls (opens_name most r sub ls))
+    path_by_opens _ = opens_here most r sub ls (λ n. opens_bind most r sub ls (opens_no_name most r sub ls (λ i. refl)))
 
-    pub path_opens : (q : Option Lexeme) → OpensAt most r sub ls q (starts_path q) known_path
+    pub path_opens : (q : Option Lexeme) → OpensAt most r sub ls q (path_starts q) known_path
     unfolding known_path
     path_opens q = opens_peek most r sub ls (path_by_opens q)
 
@@ -93,7 +94,7 @@ member_is most zero fits i = absurd (omega (arith, fits))
 member_is most (suc r) fits i = regroup (run most r (expr most r) known_path i) (λ p j. Ok ((p.0, 1), j)) (λ base. run most r (expr most r) (loop (member_step (number_at i)) base))
 
 -- what is read behind a path is, with the path, a path with indices
-pub member_on_sound : (most r : ℕ) → 1 ≤ r → (i : List Tok) (p : ExprTree × NameKind) (mid : List Tok) (x : Tall ExprTree) (j : List Tok) → a_known_path most r i ≡ Ok (p, mid) → a_member_on most r (number_at i) (p.0, 1) mid ≡ Ok (x, j)
+pub member_on_sound : (most r : ℕ) → 1 ≤ r → (i : List Tok) (p : ExprTree × NameKind) (mid : List Tok) (x : WithHeight ExprTree) (j : List Tok) → a_known_path most r i ≡ Ok (p, mid) → a_member_on most r (number_at i) (p.0, 1) mid ≡ Ok (x, j)
     → ReadAs expr_spelling IsMember expr_height r i x j
 member_on_sound most r fits i p mid x j known h = (a_member_sound most r).at i x j (member_is most r fits i ∙ bind_is (a_known_path most r i) _ p mid _ known h)
 
@@ -101,11 +102,6 @@ member_on_sound most r fits i p mid x j known h = (a_member_sound most r).at i x
 pub member_on_complete : {G : Type 0} (most r : ℕ) → 1 ≤ r → r ≤ most → (x : ExprTree) (i rest : List Tok) → length i ≤ most + length rest → IsMember x → expr_height x ≤ r → FitEach i (expr_spelling x) rest → NotSelect (lexeme_at rest)
     → ((p : ExprTree × NameKind) (mid : List Tok) → a_known_path most r i ≡ Ok (p, mid) → a_member_on most r (number_at i) (p.0, 1) mid ≡ Ok ((x, expr_height x), rest) → G) → G
 member_on_complete most r fits roomy x i rest few is low h c g = bind_ok (a_known_path most r i) (λ p j. a_member_on most r (number_at i) (p.0, 1) j) ((x, expr_height x), rest) (sym (member_is most r fits i) ∙ (a_member_complete most r roomy).at x i rest few is low h c) g
-
-pub local_member_on : (most r at : ℕ) (base : Tall ExprTree) → IsLocal (a_member_on most r at base)
-unfolding a_member_on
-local_member_on most zero at base = record { at = λ i. tt }
-local_member_on most (suc r) at base = local_run most r (expr most r) (local_expr most r) (loop (member_step at) base)
 
 pub rooms_none : (wider : Bool) (r : ℕ) → Rooms wider (suc r) zero → ⊥
 rooms_none true r h = omega (arith, h)
@@ -115,7 +111,7 @@ pub rooms_below : (wider : Bool) (r r2 : ℕ) → Rooms wider (suc r) (suc r2) �
 rooms_below true r r2 h = omega (arith, h)
 rooms_below false r r2 h = omega (arith, h)
 
-pub grows_member_on : (at : ℕ) (base : Tall ExprTree) → IsGrowing (λ most r. a_member_on most r at base)
+pub grows_member_on : (at : ℕ) (base : WithHeight ExprTree) → IsGrowing (λ most r. a_member_on most r at base)
 unfolding a_member_on
 grows_member_on at base wider n n2 zero r2 more rooms = record { at = λ i. tt }
 grows_member_on at base wider n n2 (suc r) zero more rooms = absurd (rooms_none wider r rooms)
@@ -124,31 +120,31 @@ grows_member_on at base wider n n2 (suc r) (suc r2) more rooms =
 
 -- where the reading of indices fails, what was read so far can be completed
 
-module _ (most r : ℕ) (sub : ℕ → Parser (Tall ExprTree)) (ls : (least : ℕ) → IsLocal (sub least)) (some : 1 ≤ most)
+module _ (most r : ℕ) (sub : ℕ → Parser (WithHeight ExprTree)) (ls : (least : ℕ) → IsLocal (sub least)) (some : 1 ≤ most)
     (complete : IsCompleteExpr most r sub) (hyp : 1 ≤ r → (least : ℕ) → 1 ≤ least → least ≤ 13 → IsViable most Closes (Part r) (sub least)) where
-  indexed_form : (at : ℕ) (base : Tall ExprTree) → Part (suc r) base → Form most r sub ls AnyToken (Part (suc r)) (indexed at base)
-  unfolding indexed
-  indexed_form at base a = enter_form most r sub ls a.1 (λ fits _. then_goal most r sub ls (goal_sub most r sub ls some complete hyp (omega (arith, a.0, fits)) 1 (omega arith) (omega arith) tt) (λ x g.
+  index_on_form : (at : ℕ) (base : WithHeight ExprTree) → Part (suc r) base → Form most r sub ls AnyToken (Part (suc r)) (index_on at base)
+  unfolding index_on
+  index_on_form at base a = enter_form most r sub ls a.1 (λ fits _. then_goal most r sub ls (goal_sub most r sub ls some complete hyp (omega (arith, a.0, fits)) 1 (omega arith) (omega arith) tt) (λ x g.
       then_goal most r sub ls (goal_expect most r sub ls (f.Mark m.CloseBracket) refl) (λ _ _. pure_goal most r sub ls (omega arith, omega (arith, fits, g.1)) (λ _ _. tt))))
 
-  abbrev member_turn : ℕ → Tall ExprTree → Option Lexeme → Reader (Turn (Tall ExprTree) (Tall ExprTree))
-  member_turn at s l = choose (is_fixed (f.Mark m.OpenBracket) l) (bind (indexed at s) (λ longer. pure (go longer))) (pure (done s))
+  abbrev member_turn : ℕ → WithHeight ExprTree → Option Lexeme → Rule (Turn (WithHeight ExprTree) (WithHeight ExprTree))
+  member_turn at s l = choose (is_fixed (f.Mark m.OpenBracket) l) (bind (index_on at s) (λ longer. pure (go longer))) (pure (done s))
 
   -- C: what follows the indices
   module _ (C : Option Lexeme → Type 0) (apart : (q : Option Lexeme) → C q → is_fixed (f.Mark m.OpenBracket) q ≡ false) where
-    abbrev MemberEnds : ℕ → Turn (Tall ExprTree) (Tall ExprTree) → Type 0
+    abbrev MemberEnds : ℕ → Turn (WithHeight ExprTree) (WithHeight ExprTree) → Type 0
     MemberEnds at = Then most C C (Part (suc r)) (λ s. run most r sub (bind peek (member_turn at s))) (Part (suc r))
 
-    member_branch : (at : ℕ) (s : Tall ExprTree) → Part (suc r) s → (t : Bool) → Peeks most r sub ls C (MemberEnds at) (done s) (choose t (bind (indexed at s) (λ longer. pure (go longer))) (pure (done s)))
-    member_branch at s inv true = reads (then_form most r sub ls (indexed_form at s inv) (λ longer g. pure_goal most r sub ls {Q = MemberEnds at} {x = go longer} (g, λ _ h. h) (λ _ _. tt)))
+    member_branch : (at : ℕ) (s : WithHeight ExprTree) → Part (suc r) s → (t : Bool) → Peeks most r sub ls C (MemberEnds at) (done s) (choose t (bind (index_on at s) (λ longer. pure (go longer))) (pure (done s)))
+    member_branch at s inv true = reads (then_form most r sub ls (index_on_form at s inv) (λ longer g. pure_goal most r sub ls {Q = MemberEnds at} {x = go longer} (g, λ _ h. h) (λ _ _. tt)))
     member_branch at s inv false = stops (λ i. refl)
 
-    member_goal : (at : ℕ) (base : Tall ExprTree) → Part (suc r) base → Goal most r sub ls C C (Part (suc r)) (loop (member_step at) base)
+    member_goal : (at : ℕ) (base : WithHeight ExprTree) → Part (suc r) base → Goal most r sub ls C C (Part (suc r)) (loop (member_step at) base)
     unfolding member_step
     member_goal at base a = peek_loop_goal most r sub ls C (Part (suc r)) (Part (suc r)) (member_turn at) (λ x. x) (λ s inv. inv)
         (λ s inv q. member_branch at s inv (is_fixed (f.Mark m.OpenBracket) q)) (λ s q i cl. choose_false most r sub _ _ _ i (apart q cl)) some base a
 
-pub member_on_open : (most r at : ℕ) (base : Tall ExprTree) (C : Option Lexeme → Type 0) → ((q : Option Lexeme) → C q → is_fixed (f.Mark m.OpenBracket) q ≡ false) → 1 ≤ most → r ≤ most → Part r base → IsOpen most C C (Part r) (a_member_on most r at base)
+pub member_on_open : (most r at : ℕ) (base : WithHeight ExprTree) (C : Option Lexeme → Type 0) → ((q : Option Lexeme) → C q → is_fixed (f.Mark m.OpenBracket) q ≡ false) → 1 ≤ most → r ≤ most → Part r base → IsOpen most C C (Part r) (a_member_on most r at base)
 unfolding a_member_on
 member_on_open most zero at base C apart some roomy a = absurd (omega (arith, a.0, a.1))
 member_on_open most (suc r) at base C apart some roomy a =

@@ -4,7 +4,6 @@ use Rattle.svr_token.specs.declared.Mark.TheVariants as m
 use Rattle.svr_tree.specs.Tokens.{Entry, mark}
 use Rattle.svr_tree.specs.ItemTree.{ItemTree, items_of}
 use Rattle.svr_tree.specs.ItemGrammar.{items_spelling, AreItems, items_height}
-use Rattle.svr_reader.proofs.Local.{IsLocal}
 use Rattle.svr_reader.proofs.Live.{AnyToken}
 use Rattle.svr_reader.proofs.Layers.{IsSound, IsComplete, IsOpen, IsGrowing, Low}
 use Rattle.svr_item.specs.ItemRules.{set_items}
@@ -20,7 +19,6 @@ abbrev pub set_height : List ItemTree → ℕ
 set_height xs = items_height (items_of xs)
 
 pub record SetLaws : Type 0 where
-  pub local : (most r : ℕ) → IsLocal (set_items most r)
   pub grows : IsGrowing set_items
   pub sound : (most r : ℕ) → IsSound set_spelling IsSet set_height r (set_items most r)
   pub complete : (most r : ℕ) → r ≤ most → IsComplete set_spelling IsSet set_height most r AnyToken (set_items most r)

@@ -14,20 +14,20 @@ use Rattle.svr_tree.specs.ExprGrammar.{expr_spelling}
 use Rattle.svr_tree.specs.ItemGrammar.{IsPath}
 use Rattle.svr_tree.specs.StmtTree.{RandomizeTree, StmtTree}
 use Rattle.svr_tree.specs.StmtGrammar.{method, args_spelling, with_spelling, randomize_spelling, AreArgs, IsWith, IsRandomize, with_height, randomize_height}
+use Rattle.svr_reader.specs.Outcomes.{Parser, lexeme_at}
 use Rattle.svr_reader.specs.declared.fixed.Fixed.TheVariants as f
-use Rattle.svr_reader.specs.Program.{Parser, lexeme_at, run}
-use Rattle.svr_reader.specs.Steps.{expect}
-use Rattle.svr_reader.specs.Lists.{Tall, listing}
-use Rattle.svr_reader.proofs.Steps.{bind_ok, yields, takes_append, expect_ok, led_ok}
+use Rattle.svr_reader.specs.Program.{run, expect}
+use Rattle.svr_reader.specs.Lists.{WithHeight, listing, name}
+use Rattle.svr_reader.proofs.Steps.{bind_ok, yields, takes_append, expect_ok, led_ok, name_sound}
 use Rattle.svr_reader.proofs.Layers.{ReadAs, IsSound}
 use Rattle.svr_reader.proofs.Lists.{listing_sound}
 use Rattle.svr_item.specs.ItemRules.{set_items}
-use Rattle.svr_expr.specs.ExprRules.{name, a_known_path}
-use Rattle.svr_expr_laws.proofs.Names.{name_sound, KnownPath}
+use Rattle.svr_expr.specs.ExprRules.{a_known_path, owner}
+use Rattle.svr_expr_laws.proofs.Names.{KnownPath}
 use Rattle.svr_expr_laws.proofs.Sound.{a_known_path_sound}
 use Rattle.svr_stmt.specs.declared.method.Method.{Method}
 use Rattle.svr_stmt.specs.declared.method.Method.TheVariants as built
-use Rattle.svr_stmt.specs.StmtRules.{Reader, path_method, owner, argument, given_by, given, in_line, randomize_end, randomize_given, randomize_on, whole_by, whole_call, parts}
+use Rattle.svr_stmt.specs.StmtRules.{Rule, path_method, argument, call_arguments_by, call_arguments, in_line, randomize_end, randomize_given, randomize_on, whole_by, whole_call, part}
 use Rattle.svr_stmt_laws.proofs.Sets.{SetLaws, set_spelling}
 use Rattle.svr_stmt_laws.proofs.Trees.{path_high, grow_method}
 use Rattle.svr_stmt_laws.proofs.Methods.{dot_name, OwnerRead, owner_read}
@@ -49,11 +49,11 @@ call_opens i0 p mid i d h = (opened i0 p name_kind.Randomize mid i d h, d.is)
     opened : (i0 : List Tok) (p : ExprTree) (k : NameKind) (mid i : List Tok) → OwnerRead i0 p k mid → FitEach mid (mark m.OpenParen ∷ []) i → FitEach i0 (expr_spelling (owner p) ++ method k []) i
     opened i0 p k mid i d h = subst (λ es. FitEach i0 es i) (append_assoc (expr_spelling (owner p)) (dot_name k) (mark m.OpenParen ∷ [])) (takes_append i0 (expr_spelling (owner p) ++ dot_name k) (mark m.OpenParen ∷ []) mid i d.takes h)
 
-module _ (sets : SetLaws) (most r : ℕ) (below : Parser (Tall StmtTree)) where
-  abbrev R : {A : Type 0} → Reader A → Parser A
-  R p = run most r (parts most r below) p
+module _ (sets : SetLaws) (most r : ℕ) (below : Parser (WithHeight StmtTree)) where
+  abbrev R : {A : Type 0} → Rule A → Parser A
+  R p = run most r (part most r below) p
 
-  abbrev CallRead : List Tok → Tall RandomizeTree → List Tok → Type 0
+  abbrev CallRead : List Tok → WithHeight RandomizeTree → List Tok → Type 0
   CallRead i x j = ReadAs randomize_spelling IsRandomize randomize_height r i x j
 
   -- ---- arguments
@@ -62,43 +62,43 @@ module _ (sets : SetLaws) (most r : ℕ) (below : Parser (Tall StmtTree)) where
   unfolding argument
   argument_sound = record {
     at = λ i x j h. bind_ok (R name i) _ (x, j) h (λ n mid e g.
-        yields (ReadAs (λ n2. Name n2 ∷ []) AnyName (λ _. 0) r i) _ _ (x, j) g (record { takes = name_sound most r (parts most r below) i n mid e; is = tt; tall = refl; low = omega arith }));
+        yields (ReadAs (λ n2. Name n2 ∷ []) AnyName (λ _. 0) r i) _ _ (x, j) g (record { takes = name_sound most r (part most r below) i n mid e; is = tt; height = refl; low = omega arith }));
   }
 
   abbrev ArgsRead : List Tok → RandomizeArgs → List Tok → Type 0
   ArgsRead i a j = FitEach i (args_spelling a) j × AreArgs a
 
-  given_by_sound : (q : Option Lexeme) (i : List Tok) (y : RandomizeArgs × List Tok) → lexeme_at i ≡ q → R (given_by q) i ≡ Ok y → ArgsRead i y.0 y.1
-  given_by_sound (Some (lexeme.Word w.Null)) [] y e h = absurd (cc)
-  given_by_sound (Some (lexeme.Word w.Null)) (t ∷ i) y e h = let is : t.lexeme ≡ lexeme.Word w.Null = cc in yields (ArgsRead (t ∷ i)) args.Null i y h ((is, refl), tt)
-  given_by_sound _ i y e h = bind_ok (R (listing argument) i) _ y h (λ ns j e2 g.
-      let d = (listing_sound most r (parts most r below) argument (λ n. Name n ∷ []) AnyName (λ _. 0) argument_sound).at i ns j e2 in
+  call_arguments_by_sound : (q : Option Lexeme) (i : List Tok) (y : RandomizeArgs × List Tok) → lexeme_at i ≡ q → R (call_arguments_by q) i ≡ Ok y → ArgsRead i y.0 y.1
+  call_arguments_by_sound (Some (lexeme.Word w.Null)) [] y e h = absurd (cc)
+  call_arguments_by_sound (Some (lexeme.Word w.Null)) (t ∷ i) y e h = let is : t.lexeme ≡ lexeme.Word w.Null = cc in yields (ArgsRead (t ∷ i)) args.Null i y h ((is, refl), tt)
+  call_arguments_by_sound _ i y e h = bind_ok (R (listing argument) i) _ y h (λ ns j e2 g.
+      let d = (listing_sound most r (part most r below) argument (λ n. Name n ∷ []) AnyName (λ _. 0) argument_sound).at i ns j e2 in
       yields (ArgsRead i) (args.Names ns.0) j y g (d.takes, are_args ns.0 d.is))
 
-  given_sound : (i : List Tok) (a : RandomizeArgs) (j : List Tok) → R given i ≡ Ok (a, j) → ArgsRead i a j
-  unfolding given
-  given_sound i a j h = given_by_sound (lexeme_at i) i (a, j) refl h
+  call_arguments_sound : (i : List Tok) (a : RandomizeArgs) (j : List Tok) → R call_arguments i ≡ Ok (a, j) → ArgsRead i a j
+  unfolding call_arguments
+  call_arguments_sound i a j h = call_arguments_by_sound (lexeme_at i) i (a, j) refl h
 
   -- ---- an in-line set
 
   in_line_sound : IsSound with_spelling IsWith with_height r (R in_line)
   unfolding in_line
   in_line_sound = record {
-    at = λ i x j h. led_ok most r (parts most r below) (f.Word w.With) _ _ i (x, j) h
+    at = λ i x j h. led_ok most r (part most r below) (f.Word w.With) _ _ i (x, j) h
         (λ mid t g. bind_ok (R (expect (f.Mark m.OpenBrace)) mid) _ (x, j) g (λ u j2 e g2. bind_ok (set_items most r j2) _ (x, j) g2 (λ is j3 e2 g3.
         let d = (sets.sound most r).at j2 is j3 e2 in
         yields (ReadAs with_spelling IsWith with_height r i) _ _ (x, j) g3 (record {
-          takes = takes_append i (word w.With ∷ []) (mark m.OpenBrace ∷ set_spelling is.0) mid j3 t (takes_append mid (mark m.OpenBrace ∷ []) (set_spelling is.0) j2 j3 (expect_ok most r (parts most r below) (f.Mark m.OpenBrace) mid (u, j2) e) d.takes);
+          takes = takes_append i (word w.With ∷ []) (mark m.OpenBrace ∷ set_spelling is.0) mid j3 t (takes_append mid (mark m.OpenBrace ∷ []) (set_spelling is.0) j2 j3 (expect_ok most r (part most r below) (f.Mark m.OpenBrace) mid (u, j2) e) d.takes);
           is = d.is;
-          tall = d.tall;
+          height = d.height;
           low = d.low;
         }))))
-        (λ _ g. yields (ReadAs with_spelling IsWith with_height r i) _ _ (x, j) g (record { takes = refl; is = tt; tall = refl; low = omega arith }));
+        (λ _ g. yields (ReadAs with_spelling IsWith with_height r i) _ _ (x, j) g (record { takes = refl; is = tt; height = refl; low = omega arith }));
   }
 
   -- ---- calls, behind `path.randomize(`
 
-  pub randomize_end_sound : (i0 : List Tok) (p : ExprTree) (list : RandomizeArgs) (mid i : List Tok) (y : Tall RandomizeTree × List Tok) → 1 ≤ r → IsPath (owner p) → AreArgs list
+  pub randomize_end_sound : (i0 : List Tok) (p : ExprTree) (list : RandomizeArgs) (mid i : List Tok) (y : WithHeight RandomizeTree × List Tok) → 1 ≤ r → IsPath (owner p) → AreArgs list
       → FitEach i0 (expr_spelling (owner p) ++ method name_kind.Randomize (args_spelling list)) mid → FitEach mid (mark m.CloseParen ∷ []) i → R (randomize_end p list) i ≡ Ok y → CallRead i0 y.0 y.1
   unfolding randomize_end
   randomize_end_sound i0 p list mid i y fits is are before close h = bind_ok (R in_line i) _ y h (λ items j e g.
@@ -107,25 +107,25 @@ module _ (sets : SetLaws) (most r : ℕ) (below : Parser (Tall StmtTree)) where
       yields (CallRead i0) _ _ y g (record {
         takes = grow_method (expr_spelling (owner p)) name_kind.Randomize (args_spelling list) (mark m.CloseParen ∷ with_spelling items.0) i0 mid j before (takes_append mid (mark m.CloseParen ∷ []) (with_spelling items.0) i j close d.takes);
         is = (is, are, d.is);
-        tall = omega (arith, d.tall, high);
+        height = omega (arith, d.height, high);
         low = omega (arith, fits, d.low);
       }))
 
-  pub randomize_given_sound : (i0 : List Tok) (p : ExprTree) (i : List Tok) (y : Tall RandomizeTree × List Tok) → 1 ≤ r → CallOpens i0 p i → R (randomize_given p) i ≡ Ok y → CallRead i0 y.0 y.1
+  pub randomize_given_sound : (i0 : List Tok) (p : ExprTree) (i : List Tok) (y : WithHeight RandomizeTree × List Tok) → 1 ≤ r → CallOpens i0 p i → R (randomize_given p) i ≡ Ok y → CallRead i0 y.0 y.1
   unfolding randomize_given
-  randomize_given_sound i0 p i y fits o h = bind_ok (R given i) _ y h (λ list mid e g. bind_ok (R (expect (f.Mark m.CloseParen)) mid) _ y g (λ u j e2 g2.
-      let d = given_sound i list mid e in
-      randomize_end_sound i0 p list mid j y fits o.1 d.1 (grow_method (expr_spelling (owner p)) name_kind.Randomize [] (args_spelling list) i0 i mid o.0 d.0) (expect_ok most r (parts most r below) (f.Mark m.CloseParen) mid (u, j) e2) g2))
+  randomize_given_sound i0 p i y fits o h = bind_ok (R call_arguments i) _ y h (λ list mid e g. bind_ok (R (expect (f.Mark m.CloseParen)) mid) _ y g (λ u j e2 g2.
+      let d = call_arguments_sound i list mid e in
+      randomize_end_sound i0 p list mid j y fits o.1 d.1 (grow_method (expr_spelling (owner p)) name_kind.Randomize [] (args_spelling list) i0 i mid o.0 d.0) (expect_ok most r (part most r below) (f.Mark m.CloseParen) mid (u, j) e2) g2))
 
-  pub randomize_on_sound : (i0 : List Tok) (p : ExprTree) (i : List Tok) (y : Tall RandomizeTree × List Tok) → 1 ≤ r → CallOpens i0 p i → R (randomize_on p) i ≡ Ok y → CallRead i0 y.0 y.1
+  pub randomize_on_sound : (i0 : List Tok) (p : ExprTree) (i : List Tok) (y : WithHeight RandomizeTree × List Tok) → 1 ≤ r → CallOpens i0 p i → R (randomize_on p) i ≡ Ok y → CallRead i0 y.0 y.1
   unfolding randomize_on
-  randomize_on_sound i0 p i y fits o h = led_ok most r (parts most r below) (f.Mark m.CloseParen) _ _ i y h
+  randomize_on_sound i0 p i y fits o h = led_ok most r (part most r below) (f.Mark m.CloseParen) _ _ i y h
       (λ mid t g. randomize_end_sound i0 p args.Empty i mid y fits o.1 tt o.0 t g)
       (λ _ g. randomize_given_sound i0 p i y fits o g)
 
-  whole_by_sound : (i0 : List Tok) (p : ExprTree × NameKind) (mid : List Tok) (o : Option Method) (y : Tall RandomizeTree × List Tok) → 1 ≤ r → KnownPath i0 p mid → path_method p ≡ o → R (whole_by p.0 o) mid ≡ Ok y → CallRead i0 y.0 y.1
+  whole_by_sound : (i0 : List Tok) (p : ExprTree × NameKind) (mid : List Tok) (o : Option Method) (y : WithHeight RandomizeTree × List Tok) → 1 ≤ r → KnownPath i0 p mid → path_method p ≡ o → R (whole_by p.0 o) mid ≡ Ok y → CallRead i0 y.0 y.1
   whole_by_sound i0 p mid (Some built.Randomize) y fits d e h = bind_ok (R (expect (f.Mark m.OpenParen)) mid) _ y h (λ u i e2 g.
-      randomize_on_sound i0 p.0 i y fits (call_opens i0 p.0 mid i (owner_read i0 p built.Randomize mid d e) (expect_ok most r (parts most r below) (f.Mark m.OpenParen) mid (u, i) e2)) g)
+      randomize_on_sound i0 p.0 i y fits (call_opens i0 p.0 mid i (owner_read i0 p built.Randomize mid d e) (expect_ok most r (part most r below) (f.Mark m.OpenParen) mid (u, i) e2)) g)
   whole_by_sound i0 p mid (Some (built.Mode k)) y fits d e h = absurd (cc)
   whole_by_sound i0 p mid None y fits d e h = absurd (cc)
 

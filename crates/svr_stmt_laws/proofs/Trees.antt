@@ -19,7 +19,7 @@ long es e fs = omega (arith, length-append es (e ∷ fs))
 
 -- ---- lists of statements
 
-pub stmts_spelling_is : (xs : List StmtTree) → stmts_spelling (stmts_of xs) ≡ tokens.run stmt_spelling xs
+pub stmts_spelling_is : (xs : List StmtTree) → stmts_spelling (stmts_of xs) ≡ tokens.each_spelling stmt_spelling xs
 stmts_spelling_is [] = refl
 stmts_spelling_is (x ∷ xs) = ap (λ v. stmt_spelling x ++ v) (stmts_spelling_is xs)
 

@@ -8,28 +8,29 @@ use Rattle.svr_tree.specs.ExprGrammar.{names_spelling, scope_spelling, expr_spel
 use Rattle.svr_tree.specs.StmtGrammar.{other_names, value_spelling}
 use Rattle.svr_token.specs.declared.Mark.TheVariants as m
 use Rattle.svr_token.specs.declared.Lexeme.TheVariants as lexeme
+use Rattle.svr_reader.specs.Outcomes.{Turn, go, done, Outcome, lexeme_at, number_at, turns, entered}
 use Rattle.svr_reader.specs.declared.fixed.Fixed.TheVariants as f
 use Rattle.svr_tree.specs.Operators.{least_right}
-use Rattle.svr_reader.specs.Program.{Turn, go, done, Outcome, pure, bind, lexeme_at, number_at, turns, run, entered}
+use Rattle.svr_reader.specs.Program.{pure, bind, run}
 use Rattle.svr_reader.specs.Steps.{is_fixed, same_mark}
-use Rattle.svr_reader.specs.Lists.{Tall}
-use Rattle.svr_reader.proofs.Steps.{bind_ok, bind_is, takes_append, takes_parts, lexeme_of, turn_ok, entered_ok, choose_true}
+use Rattle.svr_reader.specs.Lists.{WithHeight}
+use Rattle.svr_reader.proofs.Steps.{bind_ok, takes_append, takes_parts, lexeme_of, turn_ok, entered_ok, choose_true}
 use Rattle.svr_reader.proofs.Local.{local_run, local_turns}
 use Rattle.svr_reader.proofs.Growth.{Grown}
 use Rattle.svr_reader.proofs.Live.{ok_shorter}
-use Rattle.svr_expr.specs.declared.link.Link.{Link}
-use Rattle.svr_expr.specs.Links.{link_of, link_level}
-use Rattle.svr_expr.specs.ExprRules.{known_path, path_in, extend, extend_by, climb_by, climb_step, climb, links_of, node, expr, a_known_path, starts_path}
-use Rattle.svr_expr_laws.proofs.Links.{link_pos, link_low, goes}
+use Rattle.svr_expr.specs.declared.connective.Connective.{Connective}
+use Rattle.svr_expr.specs.Connectives.{connective_of, connective_level}
+use Rattle.svr_expr.specs.ExprRules.{extend, extend_by, climb_by, climb_step, climb, rest_of_operand, node, expr, a_known_path, path_starts, with_parens}
+use Rattle.svr_expr_laws.proofs.Connectives.{connective_pos, connective_low, goes}
 use Rattle.svr_expr_laws.proofs.Trees.{parens}
 use Rattle.svr_expr_laws.proofs.Names.{names_known, forget_kind, some_kind, KnownPath}
-use Rattle.svr_expr_laws.proofs.SoundParts.{IsBase, path_in_sound}
-use Rattle.svr_expr_laws.proofs.Sound.{IsLeft, expr_sound, a_known_path_sound}
-use Rattle.svr_expr_laws.proofs.Growth.{local_expr, grows_known_path}
+use Rattle.svr_expr_laws.proofs.Sound.{IsLeft, a_known_path_sound}
+use Rattle.svr_expr.proofs.Local.{local_expr}
+use Rattle.svr_expr_laws.proofs.Growth.{grows_known_path}
 use Rattle.svr_expr_laws.proofs.CompleteParts.{selectable_first}
 use Rattle.svr_expr_laws.proofs.Nodes.{NotDot, a_known_path_complete}
 use Rattle.svr_stmt.specs.declared.method.Method.TheVariants as built
-use Rattle.svr_stmt.specs.StmtRules.{path_method, with_call}
+use Rattle.svr_stmt.specs.StmtRules.{path_method}
 use Rattle.svr_stmt_laws.proofs.Methods.{others_of}
 
 -- ---- a path that was read is the one that the tokens spell
@@ -78,7 +79,7 @@ value_takes most r i p mid h (path at s names true) j is takes w =
 value_takes most r i p mid h e j is takes w = takes
 
 -- where no path begins
-pub plain_takes : (e : ExprTree) (i j : List Tok) → starts_path (lexeme_at i) ≡ false → IsExpr e → FitEach i (expr_spelling e) j → FitEach i (value_spelling e) j
+pub plain_takes : (e : ExprTree) (i j : List Tok) → path_starts (lexeme_at i) ≡ false → IsExpr e → FitEach i (expr_spelling e) j → FitEach i (value_spelling e) j
 plain_takes (path at s names true) i j none is takes =
     let q = takes_parts i (scope_spelling at s) (names_spelling names ++ parens) j takes in
     let q2 = takes_parts q.0 (names_spelling names) parens j q.2 in
@@ -88,17 +89,13 @@ plain_takes e i j none is takes = takes
 
 -- ---- operands that were read already
 
-pub base_of : (most r : ℕ) (i : List Tok) (p : ExprTree × NameKind) (j : List Tok) → a_known_path most (suc r) i ≡ Ok (p, j) → IsBase r (number_at i) i (p.0, 1) j
-unfolding a_known_path path_in
-base_of most r i p j h = path_in_sound most r (expr most r) (expr_sound most r) i ((p.0, 1), j) (bind_is (run most r (expr most r) known_path i) _ p j _ h refl)
-
 -- a path with `()` behind it
-pub left_called : (r : ℕ) (i : List Tok) (p : ExprTree × NameKind) (mid j : List Tok) → KnownPath i p mid → FitEach mid parens j → IsLeft r (number_at i) 1 i (with_call p.0, 1) j
-left_called r i p mid j d h = subst (λ z. IsLeft r (number_at i) 1 i (with_call z, 1) j) (sym d.is) (record {
+pub left_called : (r : ℕ) (i : List Tok) (p : ExprTree × NameKind) (mid j : List Tok) → KnownPath i p mid → FitEach mid parens j → IsLeft r (number_at i) 1 i (with_parens p.0, 1) j
+left_called r i p mid j d h = subst (λ z. IsLeft r (number_at i) 1 i (with_parens z, 1) j) (sym d.is) (record {
   takes = spelled (takes_parts i (scope_spelling d.at d.scope) (names_known d.names p.1) mid d.takes);
   is = d.good;
   above = omega arith;
-  tall = refl;
+  height = refl;
   low = omega arith;
   begins = d.begins;
 })
@@ -106,29 +103,29 @@ left_called r i p mid j d h = subst (λ z. IsLeft r (number_at i) 1 i (with_call
     spelled : (q : List Tok) × FitEach i (scope_spelling d.at d.scope) q × FitEach q (names_known d.names p.1) mid → FitEach i (expr_spelling (path d.at d.scope d.names true)) j
     spelled q = takes_append i (scope_spelling d.at d.scope) (names_spelling d.names ++ parens) q.0 j q.1 (takes_append q.0 (names_spelling d.names) parens mid j (forget_kind d.names p.1 q.0 mid q.2) h)
 
-pub called_level : {i : List Tok} {p : ExprTree × NameKind} {j : List Tok} → KnownPath i p j → level (with_call p.0) ≡ 13
-called_level d = ap (λ z. level (with_call z)) d.is
+pub called_level : {i : List Tok} {p : ExprTree × NameKind} {j : List Tok} → KnownPath i p j → level (with_parens p.0) ≡ 13
+called_level d = ap (λ z. level (with_parens z)) d.is
 
 -- an operator that comes next is taken
-pub links_take : (most r at : ℕ) (x : Tall ExprTree) (k : Link) (i : List Tok) (y : Tall ExprTree) (j : List Tok) → link_of (lexeme_at i) ≡ Some k → node most r (links_of at x) i ≡ Ok (y, j) → length j < length i
+pub connectives_take : (most r at : ℕ) (x : WithHeight ExprTree) (k : Connective) (i : List Tok) (y : WithHeight ExprTree) (j : List Tok) → connective_of (lexeme_at i) ≡ Some k → node most r (rest_of_operand at x) i ≡ Ok (y, j) → length j < length i
 unfolding node climb climb_step extend
-links_take most zero at x k i y j e h = absurd (cc)
-links_take zero (suc r) at x k i y j e h = absurd (cc)
-links_take (suc n) (suc r) at x k i y j e h =
-    let pos = link_pos k in
-    let low = link_low k in
-    let onward = goes 1 14 (link_level k) pos (omega (arith, low)) in
+connectives_take most zero at x k i y j e h = absurd (cc)
+connectives_take zero (suc r) at x k i y j e h = absurd (cc)
+connectives_take (suc n) (suc r) at x k i y j e h =
+    let pos = connective_pos k in
+    let low = connective_low k in
+    let onward = goes 1 14 (connective_level k) pos (omega (arith, low)) in
     let step = ap (λ o. run (suc n) r (expr (suc n) r) (climb_by at 1 (x, 14) o) i) e ∙ choose_true (suc n) r (expr (suc n) r) _ _ _ i onward in
     turn_ok (run (suc n) r (expr (suc n) r) (climb_step at 1 (x, 14)) i) (turns n (λ s. run (suc n) r (expr (suc n) r) (climb_step at 1 s))) (y, j) h
     (λ s2 mid e2 g. let less = first (go s2) mid (sym step ∙ e2) in
     let less2 = ok_shorter (turns n (λ s. run (suc n) r (expr (suc n) r) (climb_step at 1 s)) s2) (local_turns n (λ s. run (suc n) r (expr (suc n) r) (climb_step at 1 s)) (λ s. local_run (suc n) r (expr (suc n) r) (local_expr (suc n) r) (climb_step at 1 s)) s2) mid y j g in
     omega (arith, less, less2))
-    (λ a mid e2 g. let less = first (done a) mid (sym step ∙ e2) in let both : ◌≡◌ {A = Tall ExprTree × List Tok} (a, mid) (y, j) = cc in omega (arith, less, ap (λ z. length z.1) both))
+    (λ a mid e2 g. let less = first (done a) mid (sym step ∙ e2) in let both : ◌≡◌ {A = WithHeight ExprTree × List Tok} (a, mid) (y, j) = cc in omega (arith, less, ap (λ z. length z.1) both))
   where
-    first : (v : Turn (Tall ExprTree × ℕ) (Tall ExprTree)) (mid : List Tok) → run (suc n) r (expr (suc n) r) (bind (extend at x k) (λ longer. pure (go (longer, least_right (link_level k))))) i ≡ Ok (v, mid) → length mid < length i
+    first : (v : Turn (WithHeight ExprTree × ℕ) (WithHeight ExprTree)) (mid : List Tok) → run (suc n) r (expr (suc n) r) (bind (extend at x k) (λ longer. pure (go (longer, least_right (connective_level k))))) i ≡ Ok (v, mid) → length mid < length i
     first v mid g = bind_ok (run (suc n) r (expr (suc n) r) (extend at x k) i) _ (v, mid) g (λ longer z e2 g2.
         bind_ok (entered r x.1 i) _ (longer, z) e2 (λ n0 i2 e3 g3.
         let d = entered_ok r x.1 i n0 i2 e3 in
         let less = ok_shorter (run (suc n) r (expr (suc n) r) (extend_by at x k)) (local_run (suc n) r (expr (suc n) r) (local_expr (suc n) r) (extend_by at x k)) i2 longer z g3 in
-        let both : ◌≡◌ {A = Turn (Tall ExprTree × ℕ) (Tall ExprTree) × List Tok} (go (longer, least_right (link_level k)), z) (v, mid) = cc in
+        let both : ◌≡◌ {A = Turn (WithHeight ExprTree × ℕ) (WithHeight ExprTree) × List Tok} (go (longer, least_right (connective_level k)), z) (v, mid) = cc in
         omega (arith, less, ap length d.is, ap (λ u. length u.1) both)))

@@ -105,6 +105,11 @@ system_not_literal bytes system literal is w =
 fixed_name : (bytes : List ℕ) (lexeme : Lexeme) → IsWordText lexeme bytes → Spells lexeme bytes
 fixed_name bytes (l.Word word) f = f
 fixed_name bytes (l.Name n.Plain) f = absurd (cc (f))
+fixed_name bytes (l.Name n.Sum) f = cc (f)
+fixed_name bytes (l.Name n.Product) f = cc (f)
+fixed_name bytes (l.Name n.And) f = cc (f)
+fixed_name bytes (l.Name n.Or) f = cc (f)
+fixed_name bytes (l.Name n.Xor) f = cc (f)
 fixed_name bytes (l.Name n.Randomize) f = cc (f)
 fixed_name bytes (l.Name n.RandMode) f = cc (f)
 fixed_name bytes (l.Name n.ConstraintMode) f = cc (f)
@@ -137,6 +142,11 @@ plain_none bytes plain (Some lexeme) e = absurd (fixed_not lexeme (word_fixed by
 pub name_looked_up : (bytes : List ℕ) (lexeme : Lexeme) → IsName bytes → Spells lexeme bytes → (word_of bytes ≡ Some lexeme) ⊎ ((word_of bytes ≡ None) × (lexeme ≡ l.Name n.Plain))
 name_looked_up bytes (l.Word word) name s = inl (ap word_of s ∙ word_listed word)
 name_looked_up bytes (l.Name n.Plain) name s = inr (plain_none bytes s (word_of bytes) refl, refl)
+name_looked_up bytes (l.Name n.Sum) name s = inl (method_listed n.Sum bytes (ap Some (sym s)))
+name_looked_up bytes (l.Name n.Product) name s = inl (method_listed n.Product bytes (ap Some (sym s)))
+name_looked_up bytes (l.Name n.And) name s = inl (method_listed n.And bytes (ap Some (sym s)))
+name_looked_up bytes (l.Name n.Or) name s = inl (method_listed n.Or bytes (ap Some (sym s)))
+name_looked_up bytes (l.Name n.Xor) name s = inl (method_listed n.Xor bytes (ap Some (sym s)))
 name_looked_up bytes (l.Name n.Randomize) name s = inl (method_listed n.Randomize bytes (ap Some (sym s)))
 name_looked_up bytes (l.Name n.RandMode) name s = inl (method_listed n.RandMode bytes (ap Some (sym s)))
 name_looked_up bytes (l.Name n.ConstraintMode) name s = inl (method_listed n.ConstraintMode bytes (ap Some (sym s)))
@@ -158,6 +168,11 @@ named_spells bytes result name (Some lexeme) e r = subst (λ x. Spells x bytes) 
 -- what a name spells is a name
 pub spelled_name : (bytes : List ℕ) (kind : NameKind) → Spells (l.Name kind) bytes → IsName bytes
 spelled_name bytes n.Plain s = s.name
+spelled_name bytes n.Sum s = method_is_name n.Sum bytes (ap Some (sym s))
+spelled_name bytes n.Product s = method_is_name n.Product bytes (ap Some (sym s))
+spelled_name bytes n.And s = method_is_name n.And bytes (ap Some (sym s))
+spelled_name bytes n.Or s = method_is_name n.Or bytes (ap Some (sym s))
+spelled_name bytes n.Xor s = method_is_name n.Xor bytes (ap Some (sym s))
 spelled_name bytes n.Randomize s = method_is_name n.Randomize bytes (ap Some (sym s))
 spelled_name bytes n.RandMode s = method_is_name n.RandMode bytes (ap Some (sym s))
 spelled_name bytes n.ConstraintMode s = method_is_name n.ConstraintMode bytes (ap Some (sym s))

@@ -56,7 +56,7 @@ entry_passes P ((text, other) ∷ entries) bytes lexeme all e = go (bytes_eq tex
     go false is later e = later e
 
 words_fixed : AllEntries IsWordText words
-words_fixed = (refl, (refl, (refl, (refl, (refl, (refl, (refl, (refl, (refl, (refl, (refl, (refl, (refl, (refl, (refl, (refl, (refl, (refl, (refl, (refl, (refl, (refl, (refl, (refl, (refl, (refl, (refl, (refl, (refl, (refl, (refl, (refl, (refl, (refl, (refl, (refl, (refl, (refl, (refl, (refl, (refl, (refl, (refl, (refl, (refl, (refl, tt))))))))))))))))))))))))))))))))))))))))))))))
+words_fixed = (refl, (refl, (refl, (refl, (refl, (refl, (refl, (refl, (refl, (refl, (refl, (refl, (refl, (refl, (refl, (refl, (refl, (refl, (refl, (refl, (refl, (refl, (refl, (refl, (refl, (refl, (refl, (refl, (refl, (refl, (refl, (refl, (refl, (refl, (refl, (refl, (refl, (refl, (refl, (refl, (refl, (refl, (refl, (refl, (refl, (refl, (refl, (refl, (refl, (refl, (refl, tt)))))))))))))))))))))))))))))))))))))))))))))))))))
 
 marks_fixed : AllEntries IsMarkText marks
 marks_fixed = (refl, (refl, (refl, (refl, (refl, (refl, (refl, (refl, (refl, (refl, (refl, (refl, (refl, (refl, (refl, (refl, (refl, (refl, (refl, (refl, (refl, (refl, (refl, (refl, (refl, (refl, (refl, (refl, (refl, (refl, (refl, (refl, (refl, (refl, (refl, (refl, (refl, (refl, (refl, (refl, (refl, (refl, (refl, (refl, (refl, (refl, (refl, (refl, tt))))))))))))))))))))))))))))))))))))))))))))))))
@@ -139,6 +139,11 @@ word_listed w.With = refl
 pub method_listed : (kind : NameKind) (bytes : List ℕ) → method_text kind ≡ Some bytes → word_of bytes ≡ Some (l.Name kind)
 unfolding word_of
 method_listed n.Plain bytes e = absurd (cc (e))
+method_listed n.Sum bytes e = let same : codes "sum" ≡ bytes = cc (e) in subst (λ x. entry_of words x ≡ Some (l.Name n.Sum)) same refl
+method_listed n.Product bytes e = let same : codes "product" ≡ bytes = cc (e) in subst (λ x. entry_of words x ≡ Some (l.Name n.Product)) same refl
+method_listed n.And bytes e = let same : codes "and" ≡ bytes = cc (e) in subst (λ x. entry_of words x ≡ Some (l.Name n.And)) same refl
+method_listed n.Or bytes e = let same : codes "or" ≡ bytes = cc (e) in subst (λ x. entry_of words x ≡ Some (l.Name n.Or)) same refl
+method_listed n.Xor bytes e = let same : codes "xor" ≡ bytes = cc (e) in subst (λ x. entry_of words x ≡ Some (l.Name n.Xor)) same refl
 method_listed n.Randomize bytes e = let same : codes "randomize" ≡ bytes = cc (e) in subst (λ x. entry_of words x ≡ Some (l.Name n.Randomize)) same refl
 method_listed n.RandMode bytes e = let same : codes "rand_mode" ≡ bytes = cc (e) in subst (λ x. entry_of words x ≡ Some (l.Name n.RandMode)) same refl
 method_listed n.ConstraintMode bytes e = let same : codes "constraint_mode" ≡ bytes = cc (e) in subst (λ x. entry_of words x ≡ Some (l.Name n.ConstraintMode)) same refl
@@ -251,6 +256,11 @@ word_is_name w.With = (refl, refl)
 
 pub method_is_name : (kind : NameKind) (bytes : List ℕ) → method_text kind ≡ Some bytes → IsName bytes
 method_is_name n.Plain bytes e = absurd (cc (e))
+method_is_name n.Sum bytes e = let same : codes "sum" ≡ bytes = cc (e) in subst IsName same (refl, refl)
+method_is_name n.Product bytes e = let same : codes "product" ≡ bytes = cc (e) in subst IsName same (refl, refl)
+method_is_name n.And bytes e = let same : codes "and" ≡ bytes = cc (e) in subst IsName same (refl, refl)
+method_is_name n.Or bytes e = let same : codes "or" ≡ bytes = cc (e) in subst IsName same (refl, refl)
+method_is_name n.Xor bytes e = let same : codes "xor" ≡ bytes = cc (e) in subst IsName same (refl, refl)
 method_is_name n.Randomize bytes e = let same : codes "randomize" ≡ bytes = cc (e) in subst IsName same (refl, refl)
 method_is_name n.RandMode bytes e = let same : codes "rand_mode" ≡ bytes = cc (e) in subst IsName same (refl, refl)
 method_is_name n.ConstraintMode bytes e = let same : codes "constraint_mode" ≡ bytes = cc (e) in subst IsName same (refl, refl)

@@ -111,7 +111,7 @@ pub record IsLawfulLiteral (literal : Literal) (bytes : List ℕ) : Type 0 where
   pub has_size : HasZeroSize literal → ⊥
   pub narrow : IsOverWide literal → ⊥
 
--- a name that is no reserved word, and none by which the grammar knows a call of a method
+-- a name that is no reserved word, and none of a method that the grammar knows
 pub record IsPlainName (bytes : List ℕ) : Type 0 where
   pub name : IsName bytes
   pub no_word : (word : Word) → bytes ≢ word_text word
@@ -119,6 +119,11 @@ pub record IsPlainName (bytes : List ℕ) : Type 0 where
 
 abbrev pub SpellsName : NameKind → List ℕ → Type 0
 SpellsName n.Plain bytes = IsPlainName bytes
+SpellsName n.Sum bytes = bytes ≡ codes "sum"
+SpellsName n.Product bytes = bytes ≡ codes "product"
+SpellsName n.And bytes = bytes ≡ codes "and"
+SpellsName n.Or bytes = bytes ≡ codes "or"
+SpellsName n.Xor bytes = bytes ≡ codes "xor"
 SpellsName n.Randomize bytes = bytes ≡ codes "randomize"
 SpellsName n.RandMode bytes = bytes ≡ codes "rand_mode"
 SpellsName n.ConstraintMode bytes = bytes ≡ codes "constraint_mode"

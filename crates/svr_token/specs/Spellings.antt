@@ -1,4 +1,4 @@
--- The fixed texts of a script: reserved words (IEEE 1800-2017, table B.1), marks (11.3 and annex A), system functions (20.5) and the names of methods (18.6.1, 18.8, 18.9).
+-- The fixed texts of a script: reserved words (IEEE 1800-2017, table B.1), marks (11.3 and annex A), system functions (20.5) and the names of methods (7.12.3, 18.6.1, 18.8, 18.9).
 use Rattle.std.specs.Prelude.{ℕ, List, codes, Some, None}
 use Rattle.std.specs.declared.option.Option.{Option}
 use Rattle.svr_token.specs.declared.lexeme.Word.{Word}
@@ -111,6 +111,11 @@ system_text s.Unsigned = codes "$unsigned"
 
 abbrev pub method_text : NameKind → Option (List ℕ)
 method_text n.Plain = None
+method_text n.Sum = Some (codes "sum")
+method_text n.Product = Some (codes "product")
+method_text n.And = Some (codes "and")
+method_text n.Or = Some (codes "or")
+method_text n.Xor = Some (codes "xor")
 method_text n.Randomize = Some (codes "randomize")
 method_text n.RandMode = Some (codes "rand_mode")
 method_text n.ConstraintMode = Some (codes "constraint_mode")

@@ -149,10 +149,20 @@ pub enum Mark {
     Dollar,
 }
 
-/// A plain name, or one of the three by which the grammar knows a call of a method. Each may stand wherever a plain name may.
+/// A plain name, or the name of a method that the grammar knows: an array reduction (IEEE 1800-2017, 7.12.3), or one of 18.6, 18.8 and 18.9. Each may stand wherever a plain name may.
 #[derive(Clone, Copy, Debug, PartialEq, Eq)]
 pub enum NameKind {
     Plain,
+    /// `sum`
+    Sum,
+    /// `product`
+    Product,
+    /// `and`
+    And,
+    /// `or`
+    Or,
+    /// `xor`
+    Xor,
     /// `randomize`
     Randomize,
     /// `rand_mode`

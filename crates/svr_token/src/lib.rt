@@ -18,6 +18,3 @@ pub use names::Names;
 pub use radix::Radix;
 pub use spelling::{is_mark, is_name, is_system_name, lexeme_from, lexeme_of};
 pub use token::{Kind, Token};
-
-#[cfg(test)]
-mod tests;

@@ -4,7 +4,7 @@ ghost use Rattle.svr_token.specs.Tables.{entry_of, entries_seen, word_of, mark_o
 
 use crate::lexeme::{Lexeme, Mark, NameKind, SystemName, Word};
 
-const WORDS: [(&[u8], Lexeme); 46] = [
+const WORDS: [(&[u8], Lexeme); 51] = [
     (b"assert", Lexeme::Word(Word::Assert)),
     (b"before", Lexeme::Word(Word::Before)),
     (b"begin", Lexeme::Word(Word::Begin)),
@@ -48,6 +48,11 @@ const WORDS: [(&[u8], Lexeme); 46] = [
     (b"unsigned", Lexeme::Word(Word::Unsigned)),
     (b"void", Lexeme::Word(Word::Void)),
     (b"with", Lexeme::Word(Word::With)),
+    (b"sum", Lexeme::Name(NameKind::Sum)),
+    (b"product", Lexeme::Name(NameKind::Product)),
+    (b"and", Lexeme::Name(NameKind::And)),
+    (b"or", Lexeme::Name(NameKind::Or)),
+    (b"xor", Lexeme::Name(NameKind::Xor)),
     (b"randomize", Lexeme::Name(NameKind::Randomize)),
     (b"rand_mode", Lexeme::Name(NameKind::RandMode)),
     (b"constraint_mode", Lexeme::Name(NameKind::ConstraintMode)),

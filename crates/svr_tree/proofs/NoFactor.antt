@@ -9,11 +9,11 @@ use Rattle.svr_operator.specs.declared.BinOp.{BinOp}
 use Rattle.svr_operator.specs.declared.BinOp.TheVariants as b
 use Rattle.svr_tree.specs.declared.expr.Scope.{Scope}
 use Rattle.svr_tree.specs.declared.expr.Scope.TheVariants as scope
-use Rattle.svr_tree.specs.ExprTree.{ExprTree, number, path, bit_select, part_select, unary, binary, choice, inside, join, copies, sign, paren}
-use Rattle.svr_tree.specs.Tokens.{Tok, Entry, FitEach, mark, word}
-use Rattle.svr_tree.specs.Operators.{unary_mark, binary_mark, precedence, least_left}
-use Rattle.svr_tree.specs.ExprGrammar.{parens_spelling, system_name, expr_spelling, ranges_spelling, level, IsExpr, IsPathAt}
-use Rattle.svr_tree.specs.Examples.{inside_times, numbered, kw, k, digit}
+use Rattle.svr_tree.specs.ExprTree.{ExprTree, number, path, bit_select, part_select, unary, binary, choice, inside, join, copies, sign, paren, reduce}
+use Rattle.svr_tree.specs.Tokens.{Tok, Entry, Any, FitEach, numbered, mark, word}
+use Rattle.svr_tree.specs.Operators.{unary_mark, binary_mark, fold_name, precedence, least_left}
+use Rattle.svr_tree.specs.ExprGrammar.{parens_spelling, argument_spelling, system_name, expr_spelling, ranges_spelling, level, IsExpr, IsPathAt}
+use Rattle.svr_tree.specs.Examples.{inside_times, kw, k, digit}
 use Rattle.svr_tree.proofs.Fitting.{Somewhere, split, taken}
 
 -- the tokens from each place on
@@ -112,6 +112,8 @@ no_factor (join at parts) is low h = name_no_mark m.OpenBrace h.0.1
 no_factor (copies at n parts) is low h = name_no_mark m.OpenBrace h.0.1
 no_factor (sign at s e) is low h = let q : lexeme.Name name_kind.Plain ≡ lexeme.System (system_name s) = h.0.1 in cc
 no_factor (paren at e) is low h = name_no_mark m.OpenParen h.0.1
+no_factor (reduce at array op item body) is low h =
+    no_mark (expr_spelling array) m.Dot (Any (lexeme.Name (fold_name op)) ∷ (argument_spelling item ++ word w.With ∷ (mark m.OpenParen ∷ (expr_spelling body ++ mark m.CloseParen ∷ [])))) from_5 (λ e. cc) (λ e. cc) (λ e p q. cc) h
 
 -- `inside` would end at the brace
 no_end : (es : List Entry) → FitEach from_3 (es ++ mark m.CloseBrace ∷ []) [] → ⊥
@@ -158,3 +160,5 @@ no_reading (join at parts) is h = name_no_mark m.OpenBrace h.0.1
 no_reading (copies at n parts) is h = name_no_mark m.OpenBrace h.0.1
 no_reading (sign at s e) is h = let q : lexeme.Name name_kind.Plain ≡ lexeme.System (system_name s) = h.0.1 in cc
 no_reading (paren at e) is h = name_no_mark m.OpenParen h.0.1
+no_reading (reduce at array op item body) is h =
+    no_mark (expr_spelling array) m.Dot (Any (lexeme.Name (fold_name op)) ∷ (argument_spelling item ++ word w.With ∷ (mark m.OpenParen ∷ (expr_spelling body ++ mark m.CloseParen ∷ [])))) [] (λ e. cc) (λ e. cc) (λ e p q. cc) h

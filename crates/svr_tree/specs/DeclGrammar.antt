@@ -1,5 +1,5 @@
 -- Types, classes and variables: what they spell, which may stand under which, how high their expressions are (IEEE 1800-2017, A.1.9, A.1.10 and A.2).
-use Rattle.std.specs.Prelude.{ℕ, max, List, [], ◌∷◌, ◌++◌, Option, Some, None}
+use Rattle.std.specs.Prelude.{ℕ, ◌≤◌, max, List, [], ◌∷◌, ◌++◌, length, Option, Some, None}
 use Rattle.svr_token.specs.declared.Word.{Word}
 use Rattle.svr_token.specs.declared.Word.TheVariants as w
 use Rattle.svr_token.specs.declared.Mark.TheVariants as m
@@ -13,7 +13,7 @@ use Rattle.svr_tree.specs.declared.decl.Signing.{Signing}
 use Rattle.svr_tree.specs.declared.decl.Signing.TheVariants as signing
 use Rattle.svr_tree.specs.ExprTree.{ExprTree}
 use Rattle.svr_tree.specs.DeclTree.{PackedRangeTree, IntegerTypeTree, vector, atom, DataTypeTree, integer, named, MemberTree, DefinitionTree, enum, plain, TypeTree, DimensionTree, dynamic, queue, size, bounds, DeclaratorTree, PropertyTree, BlockTree, ClassItemTree, property, block, ClassTree, VarInitTree, value, new, VarDeclaratorTree, VarTree}
-use Rattle.svr_tree.specs.Tokens.{Entry, Name, word, word_on, mark, mark_on, run, listed, Each, OneOrMore}
+use Rattle.svr_tree.specs.Tokens.{Entry, Name, word, word_on, mark, mark_on, each_spelling, listed, Each, OneOrMore}
 use Rattle.svr_tree.specs.ExprGrammar.{parens_spelling, expr_spelling, IsExpr, expr_height}
 use Rattle.svr_tree.specs.ItemGrammar.{items_spelling, AreBlockItems, items_height}
 
@@ -75,16 +75,15 @@ abbrev pub typedef_spelling : TypeTree → List Entry
 typedef_spelling d = word w.TypeDef ∷ (definition_spelling d.definition ++ Name d.name ∷ (mark m.Semicolon ∷ []))
 
 -- A.2.5: unsized_dimension, queue_dimension, unpacked_dimension
-abbrev pub dimension_spelling : Option DimensionTree → List Entry
-dimension_spelling None = []
-dimension_spelling (Some dynamic) = mark m.OpenBracket ∷ (mark m.CloseBracket ∷ [])
-dimension_spelling (Some queue) = mark m.OpenBracket ∷ (mark m.Dollar ∷ (mark m.CloseBracket ∷ []))
-dimension_spelling (Some (size e)) = mark m.OpenBracket ∷ (expr_spelling e ++ mark m.CloseBracket ∷ [])
-dimension_spelling (Some (bounds first last)) = mark m.OpenBracket ∷ (expr_spelling first ++ mark m.Colon ∷ (expr_spelling last ++ mark m.CloseBracket ∷ []))
+abbrev pub dimension_spelling : DimensionTree → List Entry
+dimension_spelling dynamic = mark m.OpenBracket ∷ (mark m.CloseBracket ∷ [])
+dimension_spelling queue = mark m.OpenBracket ∷ (mark m.Dollar ∷ (mark m.CloseBracket ∷ []))
+dimension_spelling (size e) = mark m.OpenBracket ∷ (expr_spelling e ++ mark m.CloseBracket ∷ [])
+dimension_spelling (bounds first last) = mark m.OpenBracket ∷ (expr_spelling first ++ mark m.Colon ∷ (expr_spelling last ++ mark m.CloseBracket ∷ []))
 
 -- A.2.4: variable_decl_assignment
 abbrev pub declarator_spelling : DeclaratorTree → List Entry
-declarator_spelling d = Name d.name ∷ (dimension_spelling d.dim ++ initial_spelling d.first)
+declarator_spelling d = Name d.name ∷ (each_spelling dimension_spelling d.dims ++ initial_spelling d.value)
 
 -- [ random_qualifier ]
 abbrev pub rand_spelling : Rand → List Entry
@@ -117,7 +116,7 @@ label_spelling (Some n) = mark m.Colon ∷ (Name n ∷ [])
 
 -- A.1.2: class_declaration
 abbrev pub class_spelling : ClassTree → List Entry
-class_spelling c = word w.Class ∷ (Name c.name ∷ (extends_spelling c.base ++ mark m.Semicolon ∷ (run class_item_spelling c.items ++ word w.EndClass ∷ label_spelling c.label)))
+class_spelling c = word w.Class ∷ (Name c.name ∷ (extends_spelling c.base ++ mark m.Semicolon ∷ (each_spelling class_item_spelling c.items ++ word w.EndClass ∷ label_spelling c.label)))
 
 -- [ "=" ( expr | "new" [ "(" ")" ] ) ]
 abbrev pub var_init_spelling : Option VarInitTree → List Entry
@@ -126,7 +125,7 @@ var_init_spelling (Some (value e)) = mark m.Assign ∷ expr_spelling e
 var_init_spelling (Some (new parens)) = mark m.Assign ∷ (word w.New ∷ parens_spelling parens)
 
 abbrev pub var_declarator_spelling : VarDeclaratorTree → List Entry
-var_declarator_spelling v = Name v.name ∷ var_init_spelling v.first
+var_declarator_spelling v = Name v.name ∷ var_init_spelling v.init
 
 -- A.2.1.3: data_declaration
 abbrev pub var_spelling : VarTree → List Entry
@@ -164,15 +163,18 @@ IsDefinition (plain t) = IsInteger t
 abbrev pub IsTypedef : TypeTree → Type 0
 IsTypedef d = IsDefinition d.definition
 
-abbrev pub IsDimension : Option DimensionTree → Type 0
-IsDimension None = Unit {0}
-IsDimension (Some dynamic) = Unit {0}
-IsDimension (Some queue) = Unit {0}
-IsDimension (Some (size e)) = IsExpr e
-IsDimension (Some (bounds first last)) = IsExpr first × IsExpr last
+abbrev pub IsDimension : DimensionTree → Type 0
+IsDimension dynamic = Unit {0}
+IsDimension queue = Unit {0}
+IsDimension (size e) = IsExpr e
+IsDimension (bounds first last) = IsExpr first × IsExpr last
+
+-- two dimensions at most
+abbrev pub AreDimensions : List DimensionTree → Type 0
+AreDimensions dims = Each IsDimension dims × (length dims ≤ 2)
 
 abbrev pub IsDeclarator : DeclaratorTree → Type 0
-IsDeclarator d = IsDimension d.dim × IsOptionalExpr d.first
+IsDeclarator d = AreDimensions d.dims × IsOptionalExpr d.value
 
 abbrev pub IsProperty : PropertyTree → Type 0
 IsProperty p = IsType p.kind × OneOrMore IsDeclarator p.decls
@@ -190,7 +192,7 @@ IsVarInit (Some (value e)) = IsExpr e
 IsVarInit (Some (new parens)) = Unit {0}
 
 abbrev pub IsVarDeclarator : VarDeclaratorTree → Type 0
-IsVarDeclarator v = IsVarInit v.first
+IsVarDeclarator v = IsVarInit v.init
 
 abbrev pub IsVar : VarTree → Type 0
 IsVar v = IsType v.kind × OneOrMore IsVarDeclarator v.vars
@@ -228,15 +230,14 @@ abbrev pub typedef_height : DefinitionTree → ℕ
 typedef_height (enum d) = max (base_height d.base) (greatest member_height d.members)
 typedef_height (plain t) = integer_height t
 
-abbrev pub dimension_height : Option DimensionTree → ℕ
-dimension_height None = 0
-dimension_height (Some dynamic) = 0
-dimension_height (Some queue) = 0
-dimension_height (Some (size e)) = expr_height e
-dimension_height (Some (bounds first last)) = max (expr_height first) (expr_height last)
+abbrev pub dimension_height : DimensionTree → ℕ
+dimension_height dynamic = 0
+dimension_height queue = 0
+dimension_height (size e) = expr_height e
+dimension_height (bounds first last) = max (expr_height first) (expr_height last)
 
 abbrev pub declarator_height : DeclaratorTree → ℕ
-declarator_height d = max (dimension_height d.dim) (optional_height d.first)
+declarator_height d = max (greatest dimension_height d.dims) (optional_height d.value)
 
 abbrev pub class_item_height : ClassItemTree → ℕ
 class_item_height (property p) = max (type_height p.kind) (greatest declarator_height p.decls)
@@ -251,7 +252,7 @@ var_init_height (Some (value e)) = expr_height e
 var_init_height (Some (new parens)) = 0
 
 abbrev pub var_declarator_height : VarDeclaratorTree → ℕ
-var_declarator_height v = var_init_height v.first
+var_declarator_height v = var_init_height v.init
 
 abbrev pub var_height : VarTree → ℕ
 var_height v = max (type_height v.kind) (greatest var_declarator_height v.vars)

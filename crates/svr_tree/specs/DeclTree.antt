@@ -68,8 +68,8 @@ pub data DimensionTree : Type 0 where
 
 pub record DeclaratorTree : Type 0 where
   pub name : ℕ
-  pub dim : Option DimensionTree
-  pub first : Option ExprTree
+  pub dims : List DimensionTree
+  pub value : Option ExprTree
 
 pub record PropertyTree : Type 0 where
   pub rand : Rand
@@ -97,7 +97,7 @@ pub data VarInitTree : Type 0 where
 
 pub record VarDeclaratorTree : Type 0 where
   pub name : ℕ
-  pub first : Option VarInitTree
+  pub init : Option VarInitTree
 
 pub record VarTree : Type 0 where
   pub kind : DataTypeTree
@@ -134,7 +134,7 @@ dimension_tree (dimension.Size e) = size (expr_tree e)
 dimension_tree (dimension.Bounds first last) = bounds (expr_tree first) (expr_tree last)
 
 abbrev pub declarator_tree : Declarator → DeclaratorTree
-declarator_tree d = record { name = d.name; dim = option_map dimension_tree d.dim; first = option_map expr_tree d.first }
+declarator_tree d = record { name = d.name; dims = map dimension_tree d.dims; value = option_map expr_tree d.value }
 
 abbrev pub property_tree : PropertyDecl → PropertyTree
 property_tree p = record { rand = p.rand; kind = type_tree p.kind; decls = map declarator_tree p.decls }
@@ -154,7 +154,7 @@ var_init_tree (var_init.Value e) = value (expr_tree e)
 var_init_tree (var_init.New parens) = new parens
 
 abbrev pub var_declarator_tree : VarDeclarator → VarDeclaratorTree
-var_declarator_tree v = record { name = v.name; first = option_map var_init_tree v.first }
+var_declarator_tree v = record { name = v.name; init = option_map var_init_tree v.init }
 
 abbrev pub var_tree : VarDecl → VarTree
 var_tree v = record { kind = type_tree v.kind; vars = map var_declarator_tree v.vars }

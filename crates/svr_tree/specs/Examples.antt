@@ -8,21 +8,19 @@ use Rattle.svr_token.specs.declared.Mark.{Mark}
 use Rattle.svr_token.specs.declared.Mark.TheVariants as m
 use Rattle.svr_token.specs.declared.NameKind.TheVariants as name_kind
 use Rattle.svr_operator.specs.declared.BinOp.TheVariants as b
+use Rattle.svr_operator.specs.declared.Fold.TheVariants as fold
 use Rattle.svr_tree.specs.declared.expr.Scope.TheVariants as scope
+use Rattle.svr_tree.specs.declared.expr.IteratorArgument.TheVariants as iterator
 use Rattle.svr_tree.specs.declared.script.UnitKind.TheVariants as unit_kind
 use Rattle.svr_tree.specs.declared.stmt.RandomizeArgs.TheVariants as args
 use Rattle.svr_tree.specs.declared.stmt.CallForm.TheVariants as form
-use Rattle.svr_tree.specs.ExprTree.{ExprTree, number, path, binary, inside, join, paren, no_exprs, more_exprs, no_ranges, more_ranges, one}
-use Rattle.svr_tree.specs.ItemTree.{ItemTree, plain, implies, branch, no_items, more_items, SetTree, set, no_else, else_set}
+use Rattle.svr_tree.specs.ExprTree.{ExprTree, number, path, binary, inside, join, paren, reduce, no_exprs, more_exprs, no_ranges, more_ranges, one}
+use Rattle.svr_tree.specs.ItemTree.{ItemTree, plain, implies, branch, foreach, no_items, more_items, SetTree, set, no_else, else_set}
 use Rattle.svr_tree.specs.StmtTree.{value, answer, StmtTree, block, assign, call, no_stmts}
 use Rattle.svr_tree.specs.ScriptTree.{ScriptTree}
-use Rattle.svr_tree.specs.Tokens.{Tok}
+use Rattle.svr_tree.specs.Tokens.{Tok, numbered}
 
 -- ---- tokens, numbered from 0
-
-abbrev pub numbered : ℕ → List Lexeme → List Tok
-numbered n [] = []
-numbered n (l ∷ ls) = record { at = n; lexeme = l } ∷ numbered (n + 1) ls
 
 abbrev pub text : List Lexeme → List Tok
 text ls = numbered 0 ls
@@ -154,6 +152,45 @@ joined_text = text (k m.OpenBrace ∷ x ∷ k m.CloseBrace ∷ k m.Equal ∷ x �
 
 abbrev pub implied_join : ItemTree
 implied_join = implies 0 (name 0) (alone (joined 2))
+
+-- ---- d.sum() with (item), d.sum() and d.sum(e) with (e)
+
+abbrev pub sum_name : Lexeme
+sum_name = lexeme.Name name_kind.Sum
+
+-- `d.sum` and more
+abbrev pub sum_text : List Lexeme → List Tok
+sum_text more = text (x ∷ k m.Dot ∷ sum_name ∷ more)
+
+abbrev pub with_body : List Lexeme
+with_body = kw w.With ∷ k m.OpenParen ∷ x ∷ k m.CloseParen ∷ []
+
+abbrev pub sum_with : List Tok
+sum_with = sum_text (k m.OpenParen ∷ k m.CloseParen ∷ with_body)
+
+abbrev pub sum_with_tree : ExprTree
+sum_with_tree = reduce 0 (name 0) fold.Sum iterator.Empty (name 7)
+
+abbrev pub sum_named : List Tok
+sum_named = sum_text (k m.OpenParen ∷ x ∷ k m.CloseParen ∷ with_body)
+
+abbrev pub sum_named_tree : ExprTree
+sum_named_tree = reduce 0 (name 0) fold.Sum (iterator.Named 4) (name 8)
+
+-- with no body it is a path, as `d.size()` is
+abbrev pub sum_alone : List Tok
+sum_alone = sum_text (k m.OpenParen ∷ k m.CloseParen ∷ [])
+
+abbrev pub sum_path : ExprTree
+sum_path = path 0 scope.Plain (0 ∷ 2 ∷ []) true
+
+-- ---- foreach (m[i, j]) x;
+
+abbrev pub two_loops : List Tok
+two_loops = text (kw w.Foreach ∷ k m.OpenParen ∷ x ∷ k m.OpenBracket ∷ x ∷ k m.Comma ∷ x ∷ k m.CloseBracket ∷ k m.CloseParen ∷ x ∷ k m.Semicolon ∷ [])
+
+abbrev pub loops_of : List ℕ → ItemTree
+loops_of vars = foreach 0 (name 2) vars (alone (stated 9))
 
 -- ---- v = p.randomize(); and v = p.size();
 

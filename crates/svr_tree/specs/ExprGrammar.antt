@@ -7,9 +7,11 @@ use Rattle.svr_token.specs.declared.SystemName.{SystemName}
 use Rattle.svr_token.specs.declared.SystemName.TheVariants as system
 use Rattle.svr_tree.specs.declared.expr.Scope.{Scope}
 use Rattle.svr_tree.specs.declared.expr.Scope.TheVariants as scope
-use Rattle.svr_tree.specs.ExprTree.{ExprTree, number, path, bit_select, part_select, unary, binary, choice, inside, join, copies, sign, paren, ExprTrees, no_exprs, more_exprs, RangeTree, one, span, RangeTrees, no_ranges, more_ranges, BoundTree, value, dollar}
-use Rattle.svr_tree.specs.Tokens.{Entry, On, Name, word, word_on, mark, mark_on}
-use Rattle.svr_tree.specs.Operators.{unary_mark, binary_mark, precedence, least_left, least_right}
+use Rattle.svr_tree.specs.declared.expr.IteratorArgument.{IteratorArgument}
+use Rattle.svr_tree.specs.declared.expr.IteratorArgument.TheVariants as iterator
+use Rattle.svr_tree.specs.ExprTree.{ExprTree, number, path, bit_select, part_select, unary, binary, choice, inside, join, copies, sign, paren, reduce, ExprTrees, no_exprs, more_exprs, RangeTree, one, span, RangeTrees, no_ranges, more_ranges, BoundTree, value, dollar}
+use Rattle.svr_tree.specs.Tokens.{Entry, On, Any, Name, word, word_on, mark, mark_on}
+use Rattle.svr_tree.specs.Operators.{unary_mark, binary_mark, fold_name, conditional_level, relational_level, unary_level, precedence, least_left, least_right}
 
 -- ---- what a tree spells
 
@@ -34,6 +36,12 @@ abbrev pub parens_spelling : Bool → List Entry
 parens_spelling true = mark m.OpenParen ∷ (mark m.CloseParen ∷ [])
 parens_spelling false = []
 
+-- [ "(" [ NAME ] ")" ]
+abbrev pub argument_spelling : IteratorArgument → List Entry
+argument_spelling iterator.Absent = []
+argument_spelling iterator.Empty = mark m.OpenParen ∷ (mark m.CloseParen ∷ [])
+argument_spelling (iterator.Named n) = mark m.OpenParen ∷ (Name n ∷ (mark m.CloseParen ∷ []))
+
 abbrev pub system_name : Bool → SystemName
 system_name true = system.Signed
 system_name false = system.Unsigned
@@ -47,6 +55,8 @@ abbrev mutual
   expr_spelling (bit_select at base index call) = expr_spelling base ++ mark m.OpenBracket ∷ (expr_spelling index ++ mark m.CloseBracket ∷ parens_spelling call)
   expr_spelling (part_select at base first last call) = expr_spelling base ++ mark m.OpenBracket ∷ (expr_spelling first ++ mark m.Colon ∷ (expr_spelling last ++ mark m.CloseBracket ∷ parens_spelling call))
   expr_spelling (paren at e) = mark_on at m.OpenParen ∷ (expr_spelling e ++ mark m.CloseParen ∷ [])
+  -- A.8.2: array_method_call, of an array reduction with a body. The path ends before the name of the reduction.
+  expr_spelling (reduce at array op item body) = expr_spelling array ++ mark m.Dot ∷ (Any (lexeme.Name (fold_name op)) ∷ (argument_spelling item ++ word w.With ∷ (mark m.OpenParen ∷ (expr_spelling body ++ mark m.CloseParen ∷ []))))
   -- A.8.1: concatenation, multiple_concatenation
   expr_spelling (join at parts) = mark_on at m.OpenBrace ∷ (exprs_spelling parts ++ mark m.CloseBrace ∷ [])
   expr_spelling (copies at n parts) = mark_on at m.OpenBrace ∷ (expr_spelling n ++ mark m.OpenBrace ∷ (exprs_spelling parts ++ mark m.CloseBrace ∷ (mark m.CloseBrace ∷ [])))
@@ -90,12 +100,12 @@ abbrev mutual
 
 -- ---- which tree may stand under which
 
--- the level of an expression: 13 for a primary and a unary operator
+-- the level of an expression in table 11-2
 abbrev pub level : ExprTree → ℕ
 level (binary at op l r) = precedence op
-level (choice at t met unmet) = 2
-level (inside at l set) = 9
-level _ = 13
+level (choice at t met unmet) = conditional_level
+level (inside at l set) = relational_level
+level _ = unary_level
 
 -- the number of the first token
 abbrev pub start : ExprTree → ℕ
@@ -111,6 +121,7 @@ start (join at parts) = at
 start (copies at n parts) = at
 start (sign at s e) = at
 start (paren at e) = at
+start (reduce at array op item body) = at
 
 -- a path without a scope begins with its first name
 abbrev pub IsPathAt : ℕ → Scope → List ℕ → Type 0
@@ -152,14 +163,15 @@ abbrev mutual
   IsExpr (path at s names call) = IsPathAt at s names
   IsExpr (bit_select at base index call) = (at ≡ start base) × IsExpr base × IsExpr index × (is_selectable base ≡ true)
   IsExpr (part_select at base first last call) = (at ≡ start base) × IsExpr base × IsExpr first × IsExpr last × (is_selectable base ≡ true)
-  IsExpr (unary at op e) = IsExpr e × (13 ≤ level e)
+  IsExpr (unary at op e) = IsExpr e × (unary_level ≤ level e)
   IsExpr (binary at op l r) = (at ≡ start l) × IsExpr l × IsExpr r × (least_left (precedence op) ≤ level l) × (least_right (precedence op) ≤ level r)
-  IsExpr (choice at t met unmet) = (at ≡ start t) × IsExpr t × IsExpr met × IsExpr unmet × (least_left 2 ≤ level t) × (least_right 2 ≤ level unmet)
-  IsExpr (inside at l set) = (at ≡ start l) × IsExpr l × AreRanges set × (least_left 9 ≤ level l)
+  IsExpr (choice at t met unmet) = (at ≡ start t) × IsExpr t × IsExpr met × IsExpr unmet × (least_left conditional_level ≤ level t) × (least_right conditional_level ≤ level unmet)
+  IsExpr (inside at l set) = (at ≡ start l) × IsExpr l × AreRanges set × (least_left relational_level ≤ level l)
   IsExpr (join at parts) = AreExprs parts
   IsExpr (copies at n parts) = IsExpr n × AreExprs parts
   IsExpr (sign at s e) = IsExpr e
   IsExpr (paren at e) = IsExpr e
+  IsExpr (reduce at array op item body) = (at ≡ start array) × IsExpr array × (is_path array ≡ true) × IsExpr body
 
   -- one or more
   pub AreExprs : ExprTrees → Type 0
@@ -203,6 +215,7 @@ abbrev mutual
   expr_height (copies at n parts) = max (expr_height n) (exprs_height parts) + 1
   expr_height (sign at s e) = expr_height e + 1
   expr_height (paren at e) = expr_height e + 1
+  expr_height (reduce at array op item body) = max (expr_height array) (expr_height body) + 1
 
   pub exprs_height : ExprTrees → ℕ
   exprs_height no_exprs = 0

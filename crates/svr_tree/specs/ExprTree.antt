@@ -2,7 +2,10 @@
 use Rattle.std.specs.Prelude.{ℕ, Bool, List, [], ◌∷◌, Option, Some, None, map}
 use Rattle.svr_operator.specs.declared.UnOp.{UnOp}
 use Rattle.svr_operator.specs.declared.BinOp.{BinOp}
+use Rattle.svr_operator.specs.declared.Fold.{Fold}
 use Rattle.svr_tree.specs.declared.expr.Scope.{Scope}
+use Rattle.svr_tree.specs.declared.expr.IteratorArgument.{IteratorArgument}
+use Rattle.svr_tree.specs.declared.expr.IteratorArgument.TheVariants as iterator
 use Rattle.svr_tree.specs.declared.expr.Expr.{Expr}
 use Rattle.svr_tree.specs.declared.expr.Range.{Range}
 use Rattle.svr_tree.specs.declared.expr.Bound.{Bound}
@@ -26,6 +29,8 @@ mutual
     copies : ℕ → ExprTree → ExprTrees → ExprTree
     sign : ℕ → Bool → ExprTree → ExprTree
     paren : ℕ → ExprTree → ExprTree
+    -- array, operator, the name of an element, body
+    reduce : ℕ → ExprTree → Fold → IteratorArgument → ExprTree → ExprTree
 
   pub data ExprTrees : Type 0 where
     no_exprs : ExprTrees
@@ -42,6 +47,12 @@ mutual
   pub data BoundTree : Type 0 where
     value : ExprTree → BoundTree
     dollar : BoundTree
+
+-- the name of an element that is written
+abbrev pub argument_name : IteratorArgument → Option ℕ
+argument_name iterator.Absent = None
+argument_name iterator.Empty = None
+argument_name (iterator.Named n) = Some n
 
 abbrev pub exprs_of : List ExprTree → ExprTrees
 exprs_of [] = no_exprs
@@ -67,6 +78,7 @@ expr_step (Expr-F.Join at parts) = join at (exprs_of parts)
 expr_step (Expr-F.Copies at n parts) = copies at n (exprs_of parts)
 expr_step (Expr-F.Sign at s e) = sign at s e
 expr_step (Expr-F.Paren at e) = paren at e
+expr_step (Expr-F.Reduce at array op item body) = reduce at array op item body
 
 abbrev pub range_step : Range-F BoundTree ExprTree RangeTree → RangeTree
 range_step (Range-F.One e) = one e

@@ -7,7 +7,8 @@ use Rattle.svr_operator.specs.declared.Share.TheVariants as share
 use Rattle.svr_operator.specs.declared.BinOp.TheVariants as b
 use Rattle.svr_tree.specs.ExprTree.{ExprTree, binary, ExprTrees, no_exprs, more_exprs}
 use Rattle.svr_tree.specs.ItemTree.{DistItemTree, DistTree, ItemTree, plain, unique, implies, branch, foreach, disable, solve, ItemTrees, no_items, more_items, SetTree, set, ElseTree, no_else, else_set}
-use Rattle.svr_tree.specs.Tokens.{Entry, Name, word, word_on, mark, listed, OneOrMore}
+use Rattle.svr_tree.specs.Operators.{conditional_level}
+use Rattle.svr_tree.specs.Tokens.{Entry, word, word_on, mark, listed, names_listed, OneOrMore}
 use Rattle.svr_tree.specs.ExprGrammar.{expr_spelling, exprs_spelling, range_spelling, level, start, is_path, is_member, is_braced, IsExpr, IsRange, expr_height, exprs_height, range_height}
 
 -- ---- what a tree spells
@@ -35,7 +36,7 @@ abbrev mutual
   item_spelling (unique at members) = word_on at w.Unique ∷ (mark m.OpenBrace ∷ (exprs_spelling members ++ mark m.CloseBrace ∷ (mark m.Semicolon ∷ [])))
   item_spelling (implies at t body) = expr_spelling t ++ mark m.Arrow ∷ set_spelling body
   item_spelling (branch at t met unmet) = word_on at w.If ∷ (mark m.OpenParen ∷ (expr_spelling t ++ mark m.CloseParen ∷ (set_spelling met ++ else_spelling unmet)))
-  item_spelling (foreach at a v body) = word_on at w.Foreach ∷ (mark m.OpenParen ∷ (expr_spelling a ++ mark m.OpenBracket ∷ (Name v ∷ (mark m.CloseBracket ∷ (mark m.CloseParen ∷ set_spelling body)))))
+  item_spelling (foreach at a vars body) = word_on at w.Foreach ∷ (mark m.OpenParen ∷ (expr_spelling a ++ mark m.OpenBracket ∷ (names_listed vars ++ mark m.CloseBracket ∷ (mark m.CloseParen ∷ set_spelling body))))
   item_spelling (disable at target) = word_on at w.Disable ∷ (word w.Soft ∷ (expr_spelling target ++ mark m.Semicolon ∷ []))
   -- A.1.10: constraint_block_item
   item_spelling (solve at first later) = word_on at w.Solve ∷ (exprs_spelling first ++ word w.Before ∷ (exprs_spelling later ++ mark m.Semicolon ∷ []))
@@ -70,7 +71,7 @@ abbrev mutual
   takes_else (implies at t body) = set_takes_else body
   takes_else (branch at t met no_else) = true
   takes_else (branch at t met (else_set s)) = set_takes_else s
-  takes_else (foreach at a v body) = set_takes_else body
+  takes_else (foreach at a vars body) = set_takes_else body
   takes_else (disable at target) = false
   takes_else (solve at first later) = false
 
@@ -86,7 +87,7 @@ abbrev mutual
 -- An expression item without `soft`: at this level `->` is the implication item, so the expression is of the level of `?:` or higher, or `<->` of one such and any expression.
 abbrev pub IsStated : ExprTree → Option DistTree → Type 0
 IsStated (binary at b.Equivalent l r) None = Unit {0}
-IsStated e d = 2 ≤ level e
+IsStated e d = conditional_level ≤ level e
 
 -- a range is any expression, and so is a weight
 abbrev pub IsWeight : Option (Share × ExprTree) → Type 0
@@ -124,15 +125,21 @@ abbrev pub AreMembers : ExprTrees → Type 0
 AreMembers no_exprs = ⊥
 AreMembers (more_exprs e es) = IsMember e × EachIsMember es
 
+-- a loop variable for one dimension or for two
+abbrev pub AreLoopVars : List ℕ → Type 0
+AreLoopVars (i ∷ []) = Unit {0}
+AreLoopVars (i ∷ (j ∷ [])) = Unit {0}
+AreLoopVars _ = ⊥
+
 abbrev mutual
   -- an item of a set
   pub IsItem : ItemTree → Type 0
   IsItem (plain at true e d) = IsExpr e × IsDist d
   IsItem (plain at false e d) = (at ≡ start e) × IsExpr e × IsStated e d × IsDist d
   IsItem (unique at members) = AreMembers members
-  IsItem (implies at t body) = (at ≡ start t) × IsExpr t × (2 ≤ level t) × IsSet body
+  IsItem (implies at t body) = (at ≡ start t) × IsExpr t × (conditional_level ≤ level t) × IsSet body
   IsItem (branch at t met unmet) = IsExpr t × IsSet met × IsElse met unmet
-  IsItem (foreach at a v body) = IsPath a × IsSet body
+  IsItem (foreach at a vars body) = IsPath a × AreLoopVars vars × IsSet body
   IsItem (disable at target) = IsMember target
   -- `solve` stands directly in a block
   IsItem (solve at first later) = ⊥
@@ -182,7 +189,7 @@ abbrev mutual
   item_height (unique at members) = exprs_height members + 1
   item_height (implies at t body) = max (expr_height t) (set_height body) + 1
   item_height (branch at t met unmet) = max (max (expr_height t) (set_height met)) (else_height unmet) + 1
-  item_height (foreach at a v body) = max (expr_height a) (set_height body) + 1
+  item_height (foreach at a vars body) = max (expr_height a) (set_height body) + 1
   item_height (disable at target) = expr_height target + 1
   item_height (solve at first later) = max (exprs_height first) (exprs_height later) + 1
 

@@ -27,8 +27,8 @@ mutual
     unique : ℕ → ExprTrees → ItemTree
     implies : ℕ → ExprTree → SetTree → ItemTree
     branch : ℕ → ExprTree → SetTree → ElseTree → ItemTree
-    -- array, loop variable, set
-    foreach : ℕ → ExprTree → ℕ → SetTree → ItemTree
+    -- array, loop variables, set
+    foreach : ℕ → ExprTree → List ℕ → SetTree → ItemTree
     disable : ℕ → ExprTree → ItemTree
     solve : ℕ → ExprTrees → ExprTrees → ItemTree
 
@@ -69,7 +69,7 @@ item_step (Item-F.Plain at soft e d) = plain at soft (expr_tree e) (option_map d
 item_step (Item-F.Unique at members) = unique at (expr_trees members)
 item_step (Item-F.Implies at t body) = implies at (expr_tree t) body
 item_step (Item-F.Branch at t met unmet) = branch at (expr_tree t) met (else_of unmet)
-item_step (Item-F.Foreach at a v body) = foreach at (expr_tree a) v body
+item_step (Item-F.Foreach at a vars body) = foreach at (expr_tree a) vars body
 item_step (Item-F.Disable at target) = disable at (expr_tree target)
 item_step (Item-F.Solve at first later) = solve at (expr_trees first) (expr_trees later)
 

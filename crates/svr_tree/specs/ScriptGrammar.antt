@@ -9,7 +9,7 @@ use Rattle.svr_tree.specs.declared.script.UnitKind.{UnitKind}
 use Rattle.svr_tree.specs.declared.script.UnitKind.TheVariants as unit_kind
 use Rattle.svr_tree.specs.DeclTree.{TypeTree, ClassTree}
 use Rattle.svr_tree.specs.ScriptTree.{UnitTree, ScriptTree}
-use Rattle.svr_tree.specs.Tokens.{Entry, Name, word, mark, run, Each}
+use Rattle.svr_tree.specs.Tokens.{Entry, Name, word, mark, each_spelling, Each}
 use Rattle.svr_tree.specs.ExprGrammar.{parens_spelling}
 use Rattle.svr_tree.specs.DeclGrammar.{typedef_spelling, class_spelling, label_spelling, var_spelling, IsTypedef, IsClass, IsVar, greatest, typedef_height, class_height, var_height}
 use Rattle.svr_tree.specs.StmtGrammar.{stmt_spelling, IsStmt, stmt_height}
@@ -28,8 +28,8 @@ last_word unit_kind.Program = w.EndProgram
 -- A.1.2: module_declaration, program_declaration, with one initial_construct (A.6.2)
 abbrev pub unit_spelling : UnitTree → List Entry
 unit_spelling u =
-    word (first_word u.kind) ∷ (Name u.name ∷ (parens_spelling u.parens ++ mark m.Semicolon ∷ (run var_spelling u.outer
-    ++ word w.Initial ∷ (word w.Begin ∷ (run var_spelling u.inner ++ (run stmt_spelling u.stmts
+    word (first_word u.kind) ∷ (Name u.name ∷ (parens_spelling u.parens ++ mark m.Semicolon ∷ (each_spelling var_spelling u.outer
+    ++ word w.Initial ∷ (word w.Begin ∷ (each_spelling var_spelling u.inner ++ (each_spelling stmt_spelling u.stmts
     ++ word w.End ∷ (word (last_word u.kind) ∷ label_spelling u.label)))))))
 
 -- types and classes, each the next of its list

@@ -1,5 +1,5 @@
 -- Tokens as the grammar sees them, and the entries of a spelling.
-use Rattle.std.specs.Prelude.{◌≡◌, ℕ, List, [], ◌∷◌, ◌++◌}
+use Rattle.std.specs.Prelude.{◌≡◌, ℕ, suc, List, [], ◌∷◌, ◌++◌}
 use Rattle.svr_token.specs.declared.Lexeme.{Lexeme}
 use Rattle.svr_token.specs.declared.Lexeme.TheVariants as lexeme
 use Rattle.svr_token.specs.declared.Word.{Word}
@@ -13,6 +13,11 @@ pub record Tok : Type 0 where
   pub at : ℕ
   pub lexeme : Lexeme
 
+-- lexemes as tokens, the first of which has the number n
+abbrev pub numbered : ℕ → List Lexeme → List Tok
+numbered n [] = []
+numbered n (l ∷ ls) = record { at = n; lexeme = l } ∷ numbered (suc n) ls
+
 -- What a tree says of one token: the lexeme at this number, the lexeme at any number, a name at this number (IEEE 1800-2017, 5.6), or a name other than `randomize`.
 pub data Entry : Type 0 where
   On : ℕ → Lexeme → Entry
@@ -20,7 +25,7 @@ pub data Entry : Type 0 where
   Name : ℕ → Entry
   OtherName : ℕ → Entry
 
-pub record IsName (l : Lexeme) : Type 0 where
+pub record IsNameLexeme (l : Lexeme) : Type 0 where
   pub kind : NameKind
   pub is : l ≡ lexeme.Name kind
 
@@ -32,7 +37,7 @@ pub record IsOtherName (l : Lexeme) : Type 0 where
 abbrev pub Fits : Entry → Tok → Type 0
 Fits (On n l) t = (t.at ≡ n) × (t.lexeme ≡ l)
 Fits (Any l) t = t.lexeme ≡ l
-Fits (Name n) t = (t.at ≡ n) × IsName t.lexeme
+Fits (Name n) t = (t.at ≡ n) × IsNameLexeme t.lexeme
 Fits (OtherName n) t = (t.at ≡ n) × IsOtherName t.lexeme
 
 -- entry by entry, and then the rest
@@ -42,7 +47,7 @@ FitEach [] (e ∷ es) rest = ⊥
 FitEach (t ∷ i) (e ∷ es) rest = Fits e t × FitEach i es rest
 
 -- the tokens `i` fit the entries one by one, and then comes the rest
-pub record Takes (i : List Tok) (es : List Entry) (rest : List Tok) : Type 0 where
+pub record FitsAll (i : List Tok) (es : List Entry) (rest : List Tok) : Type 0 where
   pub each : FitEach i es rest
 
 -- ---- short words for entries
@@ -62,9 +67,9 @@ mark_on n k = On n (lexeme.Mark k)
 -- ---- spellings of lists
 
 -- x { x }
-abbrev pub run : {A : Type 0} → (A → List Entry) → List A → List Entry
-run f [] = []
-run f (x ∷ xs) = f x ++ run f xs
+abbrev pub each_spelling : {A : Type 0} → (A → List Entry) → List A → List Entry
+each_spelling f [] = []
+each_spelling f (x ∷ xs) = f x ++ each_spelling f xs
 
 -- { "," x }
 abbrev pub followed : {A : Type 0} → (A → List Entry) → List A → List Entry

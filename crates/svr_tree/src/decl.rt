@@ -102,12 +102,12 @@ pub enum Dimension {
     Bounds(Expr, Expr),
 }
 
-/// `name [dim] [= first]` (IEEE 1800-2017, A.2.4: `variable_decl_assignment`)
+/// `name dims [= value]`, with two dimensions at most (IEEE 1800-2017, A.2.4: `variable_decl_assignment`)
 #[derive(Drop)]
 pub struct Declarator {
     pub name: u32,
-    pub dim: Option<Dimension>,
-    pub first: Option<Expr>,
+    pub dims: Items<Dimension>,
+    pub value: Option<Expr>,
 }
 
 /// `[rand|randc] kind decls;` (IEEE 1800-2017, A.1.9: `class_property`)
@@ -148,11 +148,11 @@ pub enum VarInit {
     New { parens: bool },
 }
 
-/// `name [= first]`
+/// `name [= init]`
 #[derive(Drop)]
 pub struct VarDeclarator {
     pub name: u32,
-    pub first: Option<VarInit>,
+    pub init: Option<VarInit>,
 }
 
 /// `kind vars;` (IEEE 1800-2017, A.2.1.3: `data_declaration`)

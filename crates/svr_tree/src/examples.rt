@@ -1,13 +1,13 @@
 // What the grammar says of short texts: each function has an empty body, and its contract is the statement.
 
-ghost use Rattle.std.specs.Prelude.{◌≡◌, ℕ, ◌+◌, ◌<◌, ◌≤◌, []};
+ghost use Rattle.std.specs.Prelude.{◌≡◌, ℕ, ◌+◌, ◌<◌, ◌≤◌, [], ◌∷◌};
 ghost use Rattle.svr_operator.specs.declared.BinOp.{BinOp};
 ghost use Rattle.svr_token.specs.declared.Lexeme.{Lexeme};
 ghost use Rattle.svr_token.specs.declared.Word.TheVariants as w;
 ghost use Rattle.svr_tree.specs.ExprTree.{ExprTree, binary};
-ghost use Rattle.svr_tree.specs.Tokens.{Takes};
+ghost use Rattle.svr_tree.specs.Tokens.{FitsAll};
 ghost use Rattle.svr_tree.specs.Operators.{precedence};
-ghost use Rattle.svr_tree.specs.ExprGrammar.{IsExpr, expr_spelling};
+ghost use Rattle.svr_tree.specs.ExprGrammar.{IsExpr, expr_spelling, expr_height};
 ghost use Rattle.svr_tree.specs.ItemGrammar.{IsItem, item_spelling, item_height};
 ghost use Rattle.svr_tree.specs.StmtGrammar.{stmt_spelling, stmt_height};
 ghost use Rattle.svr_tree.specs.ScriptGrammar.{spelling};
@@ -44,7 +44,7 @@ pub fn items_have_the_implication()
 /// No expression reads `a inside {1} * 2`. The one tree that spells it has a left operand of too low a level.
 pub fn inside_is_no_factor()
     ensures none { (e : ExprTree) → ReadsExpr e example.inside_times → ⊥ }
-    ensures spells { Takes example.inside_times (expr_spelling example.inside_times_tree) [] }
+    ensures spells { FitsAll example.inside_times (expr_spelling example.inside_times_tree) [] }
     ensures level { IsExpr example.inside_times_tree → ⊥ }
 {}
 
@@ -63,18 +63,33 @@ pub fn brace_opens_a_set()
     ensures implied { IsItem example.implied_join → ⊥ }
 {}
 
+/// `d.sum() with (e)` is an array reduction of the path `d`, with or without a name for an element, and `d.sum()` alone a path (IEEE 1800-2017, 7.12.3).
+pub fn reduction_has_a_body()
+    ensures reduction { ReadsExpr example.sum_with_tree example.sum_with }
+    ensures named { ReadsExpr example.sum_named_tree example.sum_named }
+    ensures path { ReadsExpr example.sum_path example.sum_alone }
+    ensures height { expr_height example.sum_with_tree ≡ 2 }
+{}
+
+/// `foreach (m[i, j])` has two loop variables, and no `foreach` has three (IEEE 1800-2017, 12.7.3).
+pub fn foreach_has_two_variables()
+    ensures two { ReadsItem (example.loops_of (4 ∷ 6 ∷ [])) example.two_loops }
+    ensures none { IsItem (example.loops_of []) → ⊥ }
+    ensures three { IsItem (example.loops_of (4 ∷ 6 ∷ 8 ∷ [])) → ⊥ }
+{}
+
 /// `v = p.randomize();` is a call and no expression, `v = p.size();` an expression and no call.
 pub fn whole_right_side_is_a_call()
     ensures call { ReadsStmt example.answer_call (example.answer_text example.randomize) }
-    ensures other { Takes (example.answer_text example.randomize) (stmt_spelling example.answer_value) [] → ⊥ }
+    ensures other { FitsAll (example.answer_text example.randomize) (stmt_spelling example.answer_value) [] → ⊥ }
     ensures value { ReadsStmt example.answer_value (example.answer_text example.x) }
-    ensures size { Takes (example.answer_text example.x) (stmt_spelling example.answer_call) [] → ⊥ }
+    ensures size { FitsAll (example.answer_text example.x) (stmt_spelling example.answer_call) [] → ⊥ }
 {}
 
 /// A module ends with `endmodule`.
 pub fn module_ends_with_endmodule()
     ensures reads { IsReading 1 (example.least_text w.EndModule) example.least_script }
-    ensures other { Takes (example.least_text w.EndProgram) (spelling example.least_script) [] → ⊥ }
+    ensures other { FitsAll (example.least_text w.EndProgram) (spelling example.least_script) [] → ⊥ }
 {}
 
 /// A pair of parentheses is a level: in `a == (1);` with n pairs the item has height n + 3, so that 125 pairs are within 128 and 126 are not. An empty statement and an empty block have height 1, a call 2.

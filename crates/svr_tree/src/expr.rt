@@ -7,7 +7,7 @@ ghost use Rattle.svr_tree.specs.ExprTree.{expr_tree, range_tree, bound_tree, exp
 use crate::memory::NoMemory;
 use sqlite_items::{Boxed, Items};
 use std::alloc::Global;
-use svr_operator::{BinOp, UnOp};
+use svr_operator::{BinOp, Fold, UnOp};
 
 /// Where a path looks for its first name: by the common rules, or behind `local::` or `this.` (IEEE 1800-2017, 18.7.1 and 8.11).
 #[derive(Clone, Copy, Debug, PartialEq, Eq)]
@@ -15,6 +15,29 @@ pub enum Scope {
     Plain,
     Local,
     This,
+}
+
+/// What stands between the name of an array reduction and `with`: the name of an element in the body (IEEE 1800-2017, A.8.2 and 7.12, iterator_argument).
+#[derive(Clone, Copy, Debug, PartialEq, Eq)]
+pub enum IteratorArgument {
+    /// No parentheses, so an element is `item`.
+    Absent,
+    /// `()`, so an element is `item`.
+    Empty,
+    /// `(name)`
+    Named(u32),
+}
+
+impl IteratorArgument {
+    /// The name that is written; none where an element is `item`.
+    pub fn name(self) -> Option<u32>
+        ensures { result ≡ tree.argument_name self }
+    {
+        match self {
+            IteratorArgument::Absent | IteratorArgument::Empty => None,
+            IteratorArgument::Named(name) => Some(name),
+        }
+    }
 }
 
 /// An expression.
@@ -88,6 +111,14 @@ pub enum Expr {
     Paren {
         at: u32,
         arg: Boxed<Expr>,
+    },
+    /// `array.op(item) with (body)`, an array reduction (IEEE 1800-2017, 7.12.3)
+    Reduce {
+        at: u32,
+        array: Boxed<Expr>,
+        op: Fold,
+        item: IteratorArgument,
+        body: Boxed<Expr>,
     },
 }
 
@@ -247,6 +278,25 @@ impl Expr {
         Ok(Expr::Paren {
             at,
             arg: Boxed::new(alloc, arg)?,
+        })
+    }
+
+    pub fn reduce(
+        alloc: Global,
+        at: u32,
+        array: Expr,
+        op: Fold,
+        item: IteratorArgument,
+        body: Expr,
+    ) -> Result<Expr, NoMemory>
+        ensures { IfOk result (λ e. expr_tree e ≡ tree.reduce at (expr_tree array) op item (expr_tree body)) }
+    {
+        Ok(Expr::Reduce {
+            at,
+            array: Boxed::new(alloc, array)?,
+            op,
+            item,
+            body: Boxed::new(alloc, body)?,
         })
     }
 }

@@ -52,11 +52,11 @@ pub enum Item {
         yes: Set,
         no: Option<Set>,
     },
-    /// `foreach (array[var]) body`
+    /// `foreach (array[vars]) body`, with a loop variable for each of one or two dimensions (IEEE 1800-2017, 12.7.3)
     Foreach {
         at: u32,
         array: Expr,
-        var: u32,
+        vars: Items<u32>,
         body: Set,
     },
     /// `disable soft target;`
@@ -142,13 +142,13 @@ impl Item {
         }
     }
 
-    pub fn foreach(at: u32, array: Expr, var: u32, body: Set) -> Item
-        ensures { item_tree result ≡ tree.foreach at (expr_tree array) var (set_tree body) }
+    pub fn foreach(at: u32, array: Expr, vars: Items<u32>, body: Set) -> Item
+        ensures { item_tree result ≡ tree.foreach at (expr_tree array) vars (set_tree body) }
     {
         Item::Foreach {
             at,
             array,
-            var,
+            vars,
             body,
         }
     }

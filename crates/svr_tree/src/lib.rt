@@ -7,18 +7,17 @@ mod decl;
 pub mod examples;
 mod expr;
 mod item;
+pub mod level;
 mod memory;
 mod script;
 mod stmt;
-#[cfg(test)]
-mod tests;
 
 pub use decl::{
     AtomKind, ClassDecl, ClassItem, ConstraintBlock, DataType, Declarator, Dimension, EnumDecl,
     IntegerType, MemberDecl, PackedRange, PropertyDecl, Signing, TypeDecl, TypeDefinition, VarDecl,
     VarDeclarator, VarInit, VectorKind,
 };
-pub use expr::{Bound, Expr, Range, Scope};
+pub use expr::{Bound, Expr, IteratorArgument, Range, Scope};
 pub use item::{Dist, DistItem, Item, Set};
 pub use memory::NoMemory;
 pub use script::{Script, Top, UnitDecl, UnitKind};

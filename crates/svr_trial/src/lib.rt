@@ -2,8 +2,6 @@
 #![tactic(auto)]
 
 mod mention;
-#[cfg(test)]
-mod tests;
 mod trial;
 
 pub use mention::is_mentioned;

@@ -8,8 +8,6 @@ mod expr;
 mod item;
 mod memory;
 mod stmt;
-#[cfg(test)]
-mod tests;
 mod text;
 
 pub use class::{ArrayKind, EnumMember, EnumType, FlatClass, NumType, Prop, TBlock, TClass};

@@ -4,6 +4,7 @@ use Rattle.std.specs.List.{All}
 use Rattle.std.specs.List.Sorted.{IsStrictlyIncreasing}
 use Rattle.std.proofs.lemmas.List.{length-set, length-map, length-append, length-take, length-replicate}
 use Rattle.std.proofs.lemmas.List.Elements.{All-nil, All-cons, All-head, All-tail, All-set, All-append, All-take, All-replicate}
+use Rattle.svr_limits.specs.declared.limit.TheConstants.{ELEMENT_LIMIT}
 use Rattle.svr_typed.specs.declared.class.Prop.{Prop}
 use Rattle.svr_typed.specs.declared.class.ArrayKind.{ArrayKind}
 use Rattle.svr_typed.specs.declared.class.ArrayKind.TheVariants.{Scalar, Fixed, Dynamic}
@@ -11,7 +12,7 @@ use Rattle.svr_typed.specs.ClassTerm.{FlatTerm}
 use Rattle.svr_world.specs.declared.change.Replacement.{Replacement}
 use Rattle.svr_world.specs.declared.change.Change.{Change}
 use Rattle.svr_world.specs.World.{ObjectTerm, WorldTerm, no_object, found_object, object_of, IsMade, numbers_of, initial_numbers, new_object, with_length, with_mode, with_lists, object_with, with_object, with_numbers, with_number, with_new_object, with_size, with_rand_mode, with_block_mode, with_script, with_change}
-use Rattle.svr_world.specs.Fits.{size_limit, IsSize, IsSmall, AreSmall, FirstFits, FirstsFit, FitsProp, FitProps, FitsClass, FitsIfMade, IsWorldOf, FitsPlace, FitsChange}
+use Rattle.svr_world.specs.Fits.{IsSize, IsSmall, AreSmall, FirstFits, FirstsFit, FitsProp, FitProps, FitsClass, FitsIfMade, IsWorldOf, FitsPlace, FitsChange}
 use Rattle.svr_world.proofs.Short.{initial_short, none_used, with_lists_all}
 
 -- ---- numbers of a property
@@ -50,7 +51,7 @@ cut_length n numbers = rw (length-append (take n numbers) (replicate (n - length
 dynamic_size : (a : ArrayKind) (n : ℕ) → a ≡ Dynamic → IsSize a n
 dynamic_size a n is = rw is tt
 
-pub cut_fits : (p : Prop) (n : ℕ) (numbers : List ℕ) → p.array ≡ Dynamic → n ≤ size_limit → FitsProp p numbers → FitsProp p (with_length n numbers)
+pub cut_fits : (p : Prop) (n : ℕ) (numbers : List ℕ) → p.array ≡ Dynamic → n ≤ ELEMENT_LIMIT → FitsProp p numbers → FitsProp p (with_length n numbers)
 cut_fits p n numbers dynamic limit fits = record {
   size = dynamic_size p.array (length (with_length n numbers)) dynamic;
   short = let h : length (with_length n numbers) ≤ n = cut_length n numbers in omega arith;
@@ -164,7 +165,7 @@ with_number_fits classes w o flat i p k v all has at less =
     (number_fits p (numbers_of (object_of w o) i) k v (prop_fits flat.props (object_of w o).values i p has.1.values at) less)
 
 pub with_size_fits : (classes : List FlatTerm) (w : WorldTerm) (o : ℕ) (flat : FlatTerm) (i : ℕ) (p : Prop) (n : ℕ) → IsWorldOf classes w → HasClass classes flat (object_of w o)
-    → slice_get flat.props i ≡ Some p → p.array ≡ Dynamic → n ≤ size_limit → IsWorldOf classes (with_size w o i n)
+    → slice_get flat.props i ≡ Some p → p.array ≡ Dynamic → n ≤ ELEMENT_LIMIT → IsWorldOf classes (with_size w o i n)
 with_size_fits classes w o flat i p n all has at dynamic limit =
     with_numbers_fits classes w o flat i p (with_length n (numbers_of (object_of w o) i)) all has at
     (cut_fits p n (numbers_of (object_of w o) i) dynamic limit (prop_fits flat.props (object_of w o).values i p has.1.values at))

@@ -2,6 +2,7 @@
 use Rattle.std.specs.Prelude.{◌≡◌, ℕ, ◌<◌, ◌≤◌, ◌^◌, List, [], ◌∷◌, Option, Some, None, ⊤, length, slice_get}
 use Rattle.std.specs.List.{All}
 use Rattle.std.specs.List.Sorted.{IsStrictlyIncreasing}
+use Rattle.svr_limits.specs.declared.limit.TheConstants.{ELEMENT_LIMIT}
 use Rattle.svr_typed.specs.declared.class.Prop.{Prop}
 use Rattle.svr_typed.specs.declared.class.ArrayKind.{ArrayKind}
 use Rattle.svr_typed.specs.declared.class.ArrayKind.TheVariants.{Scalar, Fixed, Dynamic}
@@ -10,17 +11,13 @@ use Rattle.svr_world.specs.declared.change.Replacement.{Replacement}
 use Rattle.svr_world.specs.declared.change.Change.{Change}
 use Rattle.svr_world.specs.World.{ObjectTerm, WorldTerm}
 
--- no array has more elements
-abbrev pub size_limit : ℕ
-size_limit = 2048
-
 abbrev pub IsSize : ArrayKind → ℕ → Type 0
 IsSize Scalar n = n ≡ 1
 IsSize (Fixed m) n = n ≡ m
 IsSize Dynamic n = ⊤
 
 abbrev pub IsShort : List ℕ → Type 0
-IsShort numbers = length numbers ≤ size_limit
+IsShort numbers = length numbers ≤ ELEMENT_LIMIT
 
 -- the lists of a change are
 abbrev pub AreShort : List Replacement → Type 0
@@ -32,7 +29,7 @@ AreRising rs = All (λ r. IsStrictlyIncreasing r.numbers) rs
 -- a fixed array is within the limit
 abbrev pub IsSmall : ArrayKind → Type 0
 IsSmall Scalar = ⊤
-IsSmall (Fixed m) = m ≤ size_limit
+IsSmall (Fixed m) = m ≤ ELEMENT_LIMIT
 IsSmall Dynamic = ⊤
 
 abbrev pub AreSmall : List Prop → Type 0

@@ -5,8 +5,6 @@ mod change;
 mod lists;
 mod memory;
 mod object;
-#[cfg(test)]
-mod tests;
 mod watch;
 mod world;
 

@@ -3,9 +3,10 @@
 ghost use Rattle.std.specs.Prelude.{◌≡◌, ◌≤◌, length, slice_set, OnOk, OnErr, IfOk};
 ghost use Rattle.std.specs.List.{All};
 ghost use Rattle.std.specs.List.Sorted.{IsStrictlyIncreasing};
+ghost use Rattle.svr_limits.specs.declared.limit.TheConstants.{ELEMENT_LIMIT};
 ghost use Rattle.svr_typed.specs.ClassTerm.{flat_term};
 ghost use Rattle.svr_world.specs.World.{numbers_of, number_at, size_of, used_of, is_prop_on, is_block_on, new_object, with_length, with_mode, object_with};
-ghost use Rattle.svr_world.specs.Fits.{size_limit, IsShort, AreSmall, AreShort, AreRising};
+ghost use Rattle.svr_world.specs.Fits.{IsShort, AreSmall, AreShort, AreRising};
 
 use crate::change::Change;
 use crate::lists::{
@@ -86,7 +87,7 @@ impl Object {
     /// How many numbers a property has.
     pub fn size(&self, prop: u32) -> u32
         ensures size { result ≡ size_of self.now prop }
-        ensures limit { result ≤ size_limit }
+        ensures limit { result ≤ ELEMENT_LIMIT }
     {
         list_at(&self.values, prop).len() as u32
     }
@@ -120,7 +121,7 @@ impl Object {
 
     /// Old numbers stay, and new ones are 0.
     pub fn resize(&mut self, alloc: Global, prop: u32, n: u32) -> Result<(), NoMemory>
-        requires { n ≤ size_limit }
+        requires { n ≤ ELEMENT_LIMIT }
         ensures with_size { OnOk result (self.new ≡ record self.old { values = slice_set self.old.values prop (with_length n (numbers_of self.old prop)) }) }
         ensures failed { OnErr result (self.new ≡ self.old) }
     {

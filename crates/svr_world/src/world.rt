@@ -4,9 +4,10 @@ ghost use Rattle.std.specs.Prelude.{◌≡◌, ◌≤◌, ◌↔◌, IsTrue, map
 ghost use Rattle.std.specs.Option.{option_copied};
 ghost use Rattle.std.specs.List.{All};
 ghost use Rattle.std.specs.List.Sorted.{IsStrictlyIncreasing};
+ghost use Rattle.svr_limits.specs.declared.limit.TheConstants.{ELEMENT_LIMIT};
 ghost use Rattle.svr_typed.specs.ClassTerm.{flat_term};
 ghost use Rattle.svr_world.specs.World.{found_object, object_of, IsMade, number_at, size_of, used_of, is_prop_on, is_block_on, declared_classes, blank_world, with_object, without_object, with_new_object, with_number, with_size, with_rand_mode, with_block_mode, with_script, with_change};
-ghost use Rattle.svr_world.specs.Fits.{size_limit, IsShort, AreSmall, AreShort, AreRising};
+ghost use Rattle.svr_world.specs.Fits.{IsShort, AreSmall, AreShort, AreRising};
 
 use crate::change::Change;
 use crate::memory::push;
@@ -139,7 +140,7 @@ impl World {
     /// How many numbers a property has. No array has more than 2,048 elements.
     pub fn size(&self, object: u32, prop: u32) -> u32
         ensures size { result ≡ size_of (object_of self.now object) prop }
-        ensures limit { result ≤ size_limit }
+        ensures limit { result ≤ ELEMENT_LIMIT }
     {
         match self.found(object) {
             Some(found) => found.size(prop),
@@ -194,7 +195,7 @@ impl World {
     #[tactic(auto, using(crate::proofs::Made::put_back, crate::proofs::Made::put_same))]
     pub fn resize(&mut self, alloc: Global, object: u32, prop: u32, n: u32) -> Result<(), NoMemory>
         requires made { IsMade self.old object }
-        requires limit { n ≤ size_limit }
+        requires limit { n ≤ ELEMENT_LIMIT }
         ensures with_size { OnOk result (self.new ≡ with_size self.old object prop n) }
         ensures failed { OnErr result (self.new ≡ self.old) }
     {

@@ -6,6 +6,6 @@ abbrev pub is_digit_byte : ℕ → Bool
 is_digit_byte b = nat_le 48 b && nat_le b 57
 
 -- one or more
-abbrev pub IsDigits : List ℕ → Type 0
-IsDigits [] = ⊥
-IsDigits (b ∷ bs) = list_all is_digit_byte (b ∷ bs) ≡ true
+abbrev pub AreDigits : List ℕ → Type 0
+AreDigits [] = ⊥
+AreDigits (b ∷ bs) = list_all is_digit_byte (b ∷ bs) ≡ true

@@ -4,21 +4,19 @@ use Rattle.std.specs.declared.option.Option.{Option}
 use Rattle.std.specs.Str.Parse.{digits_value}
 use Rattle.std.specs.Io.KnownBytes.{Appends, Keeps, IsAtEnd}
 use Rattle.svr_edge.specs.Known.{Takes, AppendsFront}
-use Rattle.svrand.specs.Digits.{IsDigits}
-use Rattle.svrand.specs.Answer.{IsOne, IsZero, IsRefused}
+use Rattle.svrand.specs.Digits.{AreDigits}
+use Rattle.svr_limits.specs.declared.limit.TheConstants.{TEXT_LIMIT}
+use Rattle.svr_refusal.specs.declared.refusal.Refusal.TheVariants as refusal
+use Rattle.svrand.specs.Answer.{IsOne, IsZero, IsRefused, refused_at, nowhere}
 use Rattle.svrand.specs.declared.status.Status.{Status}
 use Rattle.svrand.specs.declared.status.Status.TheVariants.{AllOne, SomeZero, Usage, Refused, ReadFault, WriteFault, NoMemory}
-
--- the greatest length of a text, in bytes
-abbrev pub text_limit : ℕ
-text_limit = 4194304
 
 -- the words ask for a run with this seed
 abbrev pub IsCommand : List (List ℕ) → ℕ → Type 0
 IsCommand [] seed = ⊥
 IsCommand (w ∷ []) seed = (w ≡ codes "run") × (seed ≡ 0)
 IsCommand (w ∷ o ∷ []) seed = ⊥
-IsCommand (w ∷ o ∷ n ∷ []) seed = (w ≡ codes "run") × (o ≡ codes "--seed") × IsDigits n × (seed ≡ digits_value 10 n) × (seed < 2 ^ 64)
+IsCommand (w ∷ o ∷ n ∷ []) seed = (w ≡ codes "run") × (o ≡ codes "--seed") × AreDigits n × (seed ≡ digits_value 10 n) × (seed < 2 ^ 64)
 IsCommand (w ∷ o ∷ n ∷ m ∷ ws) seed = ⊥
 
 abbrev pub usage_text : List ℕ
@@ -35,11 +33,11 @@ prints bytes = record { printed = bytes; journal = [] }
 
 -- a run with this seed over this text ends with this status and has this to write
 abbrev pub Answers : ℕ → List ℕ → Status → Output → Type 0
-Answers seed text AllOne output = (length text ≤ text_limit) × (bytes : List ℕ) × IsOne seed text bytes × (output ≡ prints bytes)
-Answers seed text SomeZero output = (length text ≤ text_limit) × (bytes : List ℕ) × IsZero text bytes × (output ≡ prints bytes)
+Answers seed text AllOne output = (length text ≤ TEXT_LIMIT) × (bytes : List ℕ) × IsOne seed text bytes × (output ≡ prints bytes)
+Answers seed text SomeZero output = (length text ≤ TEXT_LIMIT) × (bytes : List ℕ) × IsZero text bytes × (output ≡ prints bytes)
 Answers seed text Refused output =
-    ((text_limit < length text) × (output ≡ prints (codes "refused 0:0 27\n")))
-    ⊎ ((length text ≤ text_limit) × (bytes : List ℕ) × IsRefused text bytes × (output ≡ prints bytes))
+    ((TEXT_LIMIT < length text) × (output ≡ prints (refused_at nowhere refusal.TooLong)))
+    ⊎ ((length text ≤ TEXT_LIMIT) × (bytes : List ℕ) × IsRefused text bytes × (output ≡ prints bytes))
 Answers seed text Usage output = ⊥
 Answers seed text ReadFault output = ⊥
 Answers seed text WriteFault output = ⊥
@@ -81,12 +79,22 @@ Writes words text ReadFault old new = WritesNothing old new
 Writes words text WriteFault old new = WritesFront words text old new
 Writes words text NoMemory old new = WritesNothing old new ⊎ WritesFront words text old new
 
--- What was read: all, or one byte past the limit.
-abbrev pub Reads : Status → Option (List ℕ) → Option (List ℕ) → Type 0
-Reads AllOne old new = IsAtEnd new
-Reads SomeZero old new = IsAtEnd new
-Reads Refused old new = IsAtEnd new ⊎ Takes old new (text_limit + 1)
-Reads Usage old new = Keeps old new
-Reads ReadFault old new = ⊤
-Reads WriteFault old new = ⊤
-Reads NoMemory old new = ⊤
+-- How far a source was read: to its end, or one byte past the limit.
+abbrev pub HasRead : Status → Option (List ℕ) → Option (List ℕ) → Type 0
+HasRead AllOne old new = IsAtEnd new
+HasRead SomeZero old new = IsAtEnd new
+HasRead Refused old new = IsAtEnd new ⊎ Takes old new (TEXT_LIMIT + 1)
+HasRead Usage old new = Keeps old new
+HasRead ReadFault old new = ⊤
+HasRead WriteFault old new = ⊤
+HasRead NoMemory old new = ⊤
+
+-- a text that is within the limit was read to its end, and of a longer one, one byte past the limit
+abbrev pub HasReadText : List ℕ → Status → Option (List ℕ) → Option (List ℕ) → Type 0
+HasReadText text Refused old new =
+    ((length text ≤ TEXT_LIMIT) × IsAtEnd new) ⊎ ((TEXT_LIMIT < length text) × Takes old new (TEXT_LIMIT + 1))
+HasReadText text status old new = HasRead status old new
+
+-- what words that are no command end with
+abbrev pub EndsUnread : Status → Type 0
+EndsUnread status = (status ≡ Usage) ⊎ ((status ≡ WriteFault) ⊎ (status ≡ NoMemory))

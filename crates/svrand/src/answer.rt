@@ -3,16 +3,18 @@ ghost use Rattle.std.specs.Prelude.{◌≡◌, ◌≤◌, length, IfOk};
 ghost use Rattle.svr_token.specs.Tokens.{IsTokenized};
 ghost use Rattle.svr_tree.specs.ScriptTree.{script_tree};
 ghost use Rattle.svr_parse.specs.Parse.{IsTreeOf};
-ghost use Rattle.svrand.specs.Outcome.{Answers, prints, text_limit};
+ghost use Rattle.svr_limits.specs.declared.limit.TheConstants.{TEXT_LIMIT};
+ghost use Rattle.svrand.specs.Outcome.{Answers, prints};
 
 use crate::draw::preferred;
-use crate::line::{line_of_one, line_of_zero};
+use crate::line::{NOWHERE, line_of_one, line_of_zero, refused_at};
 use crate::refusal::{lexical, syntactic};
 use crate::status::Status;
 use std::alloc::{AllocError, Global};
 use svr_bits::bit_class;
 use svr_lex::lex;
 use svr_parse::parse;
+use svr_refusal::Refusal;
 use svr_token::Names;
 use svr_tree::Script;
 use svr_trial::solve;
@@ -26,7 +28,7 @@ pub struct Answer {
 
 /// The answer to a script that was read: the line of its one call, or its refusal.
 fn call(alloc: Global, seed: u64, names: &Names<'_>, script: &Script) -> Result<Answer, AllocError>
-    requires small { length names.now.text.now ≤ text_limit }
+    requires small { length names.now.text.now ≤ TEXT_LIMIT }
     requires tokens { IsTokenized names.now.text.now names.now.tokens.now }
     requires tree { IsTreeOf names.now.text.now names.now.tokens.now (script_tree script.now) }
     ensures { IfOk result (λ a. Answers seed names.now.text.now a.status (prints a.text.items)) }
@@ -36,7 +38,7 @@ fn call(alloc: Global, seed: u64, names: &Names<'_>, script: &Script) -> Result<
         Ok(None) => {
             return Ok(Answer {
                 status: Status::Refused,
-                text: Vec::from_slice(alloc, b"refused 0:0 28\n")?,
+                text: refused_at(alloc, NOWHERE, Refusal::NotAnswered)?,
             });
         }
         Err(_) => return Err(AllocError),
@@ -56,7 +58,7 @@ fn call(alloc: Global, seed: u64, names: &Names<'_>, script: &Script) -> Result<
 
 /// The answer to a text of at most 4,194,304 bytes: the line of its one call, or its refusal.
 pub fn answer_of(alloc: Global, seed: u64, text: &[u8]) -> Result<Answer, AllocError>
-    requires { length text.now ≤ text_limit }
+    requires { length text.now ≤ TEXT_LIMIT }
     ensures { IfOk result (λ a. Answers seed text.now a.status (prints a.text.items)) }
 {
     let tokens = match lex(alloc, text) {

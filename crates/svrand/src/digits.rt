@@ -1,7 +1,7 @@
 // Decimal digits.
 ghost use Rattle.std.specs.Prelude.{◌≡◌, ◌<◌, ◌≤◌, ◌^◌, IfSome, IfNone};
 ghost use Rattle.std.specs.Str.Parse.{digits_value};
-ghost use Rattle.svrand.specs.Digits.{IsDigits, is_digit_byte};
+ghost use Rattle.svrand.specs.Digits.{AreDigits, is_digit_byte};
 
 fn is_digit(b: u8) -> bool
     ensures { result ≡ is_digit_byte b }
@@ -11,10 +11,10 @@ fn is_digit(b: u8) -> bool
 
 /// The number that digits write, where it is below 2^64.
 pub(crate) fn number(digits: &[u8]) -> Option<u64>
-    ensures digits { IfSome result (λ n. IsDigits digits.now) }
+    ensures digits { IfSome result (λ n. AreDigits digits.now) }
     ensures value { IfSome result (λ n. n ≡ digits_value 10 digits.now) }
     ensures fits { IfSome result (λ n. n < 2 ^ 64) }
-    ensures none { IfNone result (IsDigits digits.now → 2 ^ 64 ≤ digits_value 10 digits.now) }
+    ensures none { IfNone result (AreDigits digits.now → 2 ^ 64 ≤ digits_value 10 digits.now) }
 {
     if digits.is_empty() {
         return None;

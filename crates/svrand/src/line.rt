@@ -5,9 +5,9 @@ ghost use Rattle.svr_bits.specs.Names.{seen};
 ghost use Rattle.svr_bits.specs.Form.{bit_term};
 ghost use Rattle.svrand.specs.Answer as spec;
 
-use crate::place::Place;
 use std::alloc::{AllocError, Global};
 use svr_bits::BitClass;
+use svr_refusal::{Place, Refusal};
 
 /// The parts in one text.
 fn join(alloc: Global, parts: &[&[u8]]) -> Result<Vec<u8>, AllocError>
@@ -66,13 +66,16 @@ pub fn line_of_zero(alloc: Global, class: &BitClass<'_>) -> Result<Vec<u8>, Allo
     join(alloc, &[b"#1 ", class.object, b" 0 hard\n"])
 }
 
+/// What stands for the place of a refusal that has none.
+pub const NOWHERE: Place = Place { line: 0, column: 0 };
+
 /// The line of a refusal at a place.
-pub fn refused_at(alloc: Global, place: Place, number: u8) -> Result<Vec<u8>, AllocError>
-    ensures { IfOk result (λ v. v.items ≡ spec.refused_at place number) }
+pub fn refused_at(alloc: Global, place: Place, why: Refusal) -> Result<Vec<u8>, AllocError>
+    ensures { IfOk result (λ v. v.items ≡ spec.refused_at place why) }
 {
     let line = place.line.to_string(alloc)?;
     let column = place.column.to_string(alloc)?;
-    let number = number.to_string(alloc)?;
+    let number = why.number().to_string(alloc)?;
     join(
         alloc,
         &[

@@ -9,7 +9,6 @@ mod command;
 mod digits;
 mod draw;
 mod line;
-mod place;
 mod refusal;
 mod run;
 mod status;

@@ -1,6 +1,6 @@
 use Rattle.std.proofs.Common.{◌≡◌, ◌∙◌, ap, arith, ◌-◌}
 use Rattle.svr_reader.specs.Calls.{cap}
-use Rattle.svr_expr.specs.ExprRules.{a_known_path, starts_path, expr}
+use Rattle.svr_expr.specs.ExprRules.{a_known_path, path_starts, expr}
 use Rattle.svr_expr.proofs.Anywhere.{known_path_same}
 use Rattle.svr_expr.proofs.Deep.{deeper, no_room_is}
 use Rattle.svr_expr.proofs.names.known_path.Goals as goal
@@ -15,4 +15,4 @@ pub returns-then-room-eq0 : goal.returns-then-room-eq0
 unfolding a_known_path
 returns-then-room-eq0 c _ =
     let none : c.args.room ≡ 0 = omega arith in
-    ap (λ n. a_known_path cap n c.args.cursor.now) none ∙ no_room_is starts_path c.args.cursor.now _ c.no_path.ensures
+    ap (λ n. a_known_path cap n c.args.cursor.now) none ∙ no_room_is path_starts c.args.cursor.now _ c.no_path.ensures

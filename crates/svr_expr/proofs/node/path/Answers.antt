@@ -1,6 +1,6 @@
 use Rattle.std.proofs.Common.{◌≡◌, ◌∙◌, ap, arith, ◌-◌}
 use Rattle.svr_reader.specs.Calls.{cap}
-use Rattle.svr_expr.specs.ExprRules.{node, a_path, starts_path}
+use Rattle.svr_expr.specs.ExprRules.{node, a_path, path_starts}
 use Rattle.svr_expr.proofs.Anywhere.{path_in_same}
 use Rattle.svr_expr.proofs.Deep.{deeper, no_room_is}
 use Rattle.svr_expr.proofs.node.path.Goals as goal
@@ -15,4 +15,4 @@ pub returns-then-room-eq0-clause-gives : goal.returns-then-room-eq0-clause-gives
 unfolding node
 returns-then-room-eq0-clause-gives c _ =
     let none : c.args.room ≡ 0 = omega arith in
-    ap (λ n. node cap n a_path c.args.cursor.now) none ∙ no_room_is starts_path c.args.cursor.now _ c.no_path.ensures
+    ap (λ n. node cap n a_path c.args.cursor.now) none ∙ no_room_is path_starts c.args.cursor.now _ c.no_path.ensures

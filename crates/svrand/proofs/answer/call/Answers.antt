@@ -13,8 +13,8 @@ returns-in-Ok-None c =
     let none : None ≡ class_of (names_of c.args.names.now) (script_tree c.args.script.now) = rw c.in-Ok-None.field-0-is at c.in-Ok-None.ensures.form in
     inr (
       c.requires.small,
-      c.in_ok-from_slice-in-Ok-None.field-0.items,
-      by_form c.args.names.now.tokens.now (script_tree c.args.script.now) c.requires.tokens c.requires.tree (sym none) c.in_ok-from_slice-in-Ok-None.ensures.items,
+      c.in_ok-refused_at-in-Ok-None.field-0.items,
+      by_form c.args.names.now.tokens.now (script_tree c.args.script.now) c.requires.tokens c.requires.tree (sym none) c.in_ok-refused_at-in-Ok-None.ensures,
       refl,
     )
 

@@ -1,0 +1,11 @@
+//! The tests of gates and circuits: what was built, on every input.
+//!
+//! They stand apart, so that the layers are proved once.
+#![tactic(auto)]
+
+#[cfg(test)]
+mod gates;
+#[cfg(test)]
+mod shapes;
+#[cfg(test)]
+mod sums;

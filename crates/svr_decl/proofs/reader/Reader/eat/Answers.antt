@@ -1,7 +1,0 @@
-use Rattle.svr_reader.specs.Calls.{cap}
-use Rattle.svr_reader.proofs.Steps.{eat_is}
-use Rattle.svr_decl.specs.DeclRules.{part}
-use Rattle.svr_decl.proofs.reader.Reader.eat.Goals as goal
-
-pub returns : goal.returns
-returns c = rw (eat_is cap c.args.self.room (part cap c.args.self.room) c.args.fixed c.args.cursor.now) c.eat.ensures

@@ -1,8 +1,0 @@
-use Rattle.svr_reader.specs.declared.fixed.Fixed.TheVariants as f
-use Rattle.svr_reader.specs.Calls.{cap}
-use Rattle.svr_reader.proofs.Steps.{eat_is}
-use Rattle.svr_expr.specs.ExprRules.{expr}
-use Rattle.svr_expr.proofs.parts.Parts.eat.Goals as goal
-
-pub returns : goal.returns
-returns g c = rw (eat_is cap c.args.self.now.room (expr cap c.args.self.now.room) (f.Mark c.args.mark) c.args.cursor.now) c.eat.ensures

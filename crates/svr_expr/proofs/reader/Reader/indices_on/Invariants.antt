@@ -1,0 +1,15 @@
+use Rattle.std.proofs.Common.{◌≡◌, ◌-◌, ◌+◌, ◌^◌, ◌<◌, ◌≤◌, length}
+use Rattle.svr_tree.specs.ExprTree.{expr_tree}
+use Rattle.svr_reader.specs.Outcomes.{turns}
+use Rattle.svr_reader.specs.Program.{loop}
+use Rattle.svr_reader.specs.Calls.{cap, height_view}
+use Rattle.svr_expr.specs.ExprRules.{member_step, within}
+use Rattle.svr_expr.proofs.reader.Reader.indices_on.Given as goal
+
+abbrev pub invariant-loop-turn : goal.invariant-loop-turn
+invariant-loop-turn g l = record {
+  gives : within cap l.self.room (loop (member_step l.at) (height_view expr_tree (l.fn.first, l.fn.first_height))) l.fn.cursor ≡ turns (cap - l._turn) (λ s. within cap l.self.room (member_step l.at s)) (height_view expr_tree (l.base, l.height)) l.cursor;
+  low : l.height ≤ l.self.room + 1;
+  few : l._turn + length l.cursor ≤ l.left;
+  all : l.left < 2 ^ 32;
+}

@@ -1,7 +1,0 @@
-use Rattle.svr_reader.specs.Calls.{cap}
-use Rattle.svr_reader.proofs.Steps.{expect_is}
-use Rattle.svr_item.specs.ItemRules.{part, item}
-use Rattle.svr_item.proofs.parts.Parts.expect.Goals as goal
-
-pub returns : goal.returns
-returns g c = rw (expect_is cap c.args.self.now.room (part cap c.args.self.now.room (item cap c.args.self.now.room)) c.args.fixed c.args.cursor.now) c.expect.ensures

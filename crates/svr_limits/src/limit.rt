@@ -1,0 +1,16 @@
+// The limits of a script.
+
+/// The greatest length of a script, in bytes.
+pub const TEXT_LIMIT: usize = 4_194_304;
+
+/// The greatest height of a script's tree, in nodes.
+pub const HEIGHT_LIMIT: usize = 128;
+
+/// The most properties of a class, with those that it inherits.
+pub const PROPERTY_LIMIT: u32 = 1024;
+
+/// The most elements of an array.
+pub const ELEMENT_LIMIT: u32 = 2048;
+
+/// How many loops stand around a place at the most, those of `foreach` and of array reductions together.
+pub const LOOP_LIMIT: u32 = 256;

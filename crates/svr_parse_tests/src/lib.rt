@@ -1,0 +1,19 @@
+//! The tests of the readers of expressions, items, declarations, statements and scripts: short texts, with the shapes of their trees, their heights and their faults.
+//!
+//! They stand apart, so that the readers are proved once.
+#![tactic(auto)]
+
+#[cfg(test)]
+mod declarations;
+#[cfg(test)]
+mod expressions;
+#[cfg(test)]
+mod items;
+#[cfg(test)]
+mod scripts;
+#[cfg(test)]
+mod shape;
+#[cfg(test)]
+mod statements;
+#[cfg(test)]
+mod text;

@@ -1,0 +1,13 @@
+//! The tests of numbers, typed trees and values.
+//!
+//! They stand apart, so that the layers are proved once.
+#![tactic(auto)]
+
+#[cfg(test)]
+mod numbers;
+#[cfg(test)]
+mod trials;
+#[cfg(test)]
+mod typed_trees;
+#[cfg(test)]
+mod values;
