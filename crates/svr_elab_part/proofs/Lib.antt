@@ -1,0 +1,4 @@
+pub mod Constants
+pub mod Typed
+pub mod Looked
+pub mod Valued
