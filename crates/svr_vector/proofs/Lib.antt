@@ -1,0 +1,4 @@
+pub mod BitwiseLemmas
+pub mod LiteralLemmas
+pub mod OperatorLemmas
+pub mod PickLemmas

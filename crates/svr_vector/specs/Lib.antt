@@ -1,0 +1,4 @@
+pub mod Bitwise
+pub mod Literals
+pub mod Kinds
+pub mod Places
