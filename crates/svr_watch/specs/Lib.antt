@@ -1,0 +1,5 @@
+pub mod Codes
+pub mod Store
+pub mod StoreFields
+pub mod Watch
+pub mod ArenaOf
