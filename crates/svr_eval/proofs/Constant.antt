@@ -44,7 +44,7 @@ below_same x y u v p q =
 
 module _ (a : Reading) (env : List ℕ) where
   mutual
-    constant_val : (e : ExprTerm) (w : ℕ) (s : Bool) → IsConstant e → val a env e w s ≡ val blank [] e w s
+    pub constant_val : (e : ExprTerm) (w : ℕ) (s : Bool) → IsConstant e → val a env e w s ≡ val blank [] e w s
     constant_val (typed from signed n) w s h = constant_node n from signed w s h
 
     constant_node : (n : NodeTerm) (from : ℕ) (signed : Bool) (w : ℕ) (s : Bool) → NodeIsConstant n → node_val a env from signed n w s ≡ node_val blank [] from signed n w s

@@ -1,6 +1,7 @@
 -- Whether a constraint item holds (IEEE 1800-2017, 18.5).
 use Rattle.std.specs.Prelude.{◌≡◌, ◌==◌, ℕ, zero, suc, ◌+◌, ◌/◌, ◌≤◌, Bool, true, false, not, ◌&&◌, ◌||◌, if◌then◌else◌, List, [], ◌∷◌, ◌++◌, Option, None, Some, ⊤, ◌⊎◌}
 use Rattle.std.specs.List.{list_any}
+use Rattle.svr_limits.specs.declared.limit.TheConstants.{LOOP_LIMIT}
 use Rattle.svr_operator.specs.declared.Share.{Share}
 use Rattle.svr_typed.specs.ExprTerm.{ExprTerm, ExprTerms, no_exprs, more_exprs}
 use Rattle.svr_typed.specs.ItemTerm.{DistTerm, ItemTerm, plain, unique, implies, branch, foreach, disable, solve, ItemTerms, no_items, more_items, ElseTerm, no_else, else_items}
@@ -117,14 +118,14 @@ module _ (a : Reading) where
   DistCanRead depth None = ⊤
   DistCanRead depth (Some ds) = MembersCanRead depth ds
 
-  -- loops nest at most 256 deep
+  -- loops nest within their limit
   abbrev mutual
     pub ItemCanRead : ℕ → ItemTerm → Type 0
     ItemCanRead depth (plain soft e dist) = CanRead a depth e × DistCanRead depth dist
     ItemCanRead depth (unique members) = AllCanRead a depth members
     ItemCanRead depth (implies t body) = CanRead a depth t × ItemsCanRead depth body
     ItemCanRead depth (branch t met unmet) = CanRead a depth t × ItemsCanRead depth met × ElseCanRead depth unmet
-    ItemCanRead depth (foreach p m names body) = (depth + names ≤ 256) × ItemsCanRead (depth + names) body
+    ItemCanRead depth (foreach p m names body) = (depth + names ≤ LOOP_LIMIT) × ItemsCanRead (depth + names) body
     ItemCanRead depth (disable target) = ⊤
     ItemCanRead depth (solve first later) = ⊤
 

@@ -1,5 +1,6 @@
 -- The trees whose stored sizes and signs are right, and those that an assignment and some loops can serve.
 use Rattle.std.specs.Prelude.{◌≡◌, ◌≤◌, ◌<◌, ◌^◌, ◌+◌, ◌*◌, ℕ, ℤ, pos, ◌-ℤ◌, ◌+ℤ◌, [], ⊤}
+use Rattle.svr_limits.specs.declared.limit.TheConstants.{LOOP_LIMIT}
 use Rattle.svr_num.specs.Num.{read_of}
 use Rattle.svr_typed.specs.ExprTerm.{ExprTerm, typed, NodeTerm, number, prop, element, cell, size, script, loop_index, reduce, of_object, bit_select, part_select, unary, binary, choice, inside, join, copies, sign, ExprTerms, no_exprs, more_exprs, RangeTerm, one, span, RangeTerms, no_ranges, more_ranges, BoundTerm, value, dollar}
 use Rattle.svr_eval.specs.Reading.{Reading, blank}
@@ -96,7 +97,7 @@ abbrev mutual
   BoundIsTyped (value e) = IsTyped e
   BoundIsTyped dollar = ⊤
 
--- ---- what an assignment has for a tree fits the tree's sizes, and so many loops and reductions stand around it, at most 256; no part is another object's
+-- ---- what an assignment has for a tree fits the tree's sizes, and so many loops and reductions stand around it, within their limit; no part is another object's
 
 module _ (a : Reading) where
   abbrev mutual
@@ -111,7 +112,7 @@ module _ (a : Reading) where
     NodeCanRead depth w (size p m) = a.size p < 2 ^ 32
     NodeCanRead depth w (script v) = a.script v < 2 ^ w
     NodeCanRead depth w (loop_index k) = k < depth
-    NodeCanRead depth w (reduce p op body) = (depth < 256) × CanRead (depth + 1) body
+    NodeCanRead depth w (reduce p op body) = (depth < LOOP_LIMIT) × CanRead (depth + 1) body
     NodeCanRead depth w (of_object o e) = ⊥
     NodeCanRead depth w (bit_select base first low) = CanRead depth base × CanRead depth first
     NodeCanRead depth w (part_select base first last low) = CanRead depth base × CanRead depth first × CanRead depth last

@@ -1,14 +1,16 @@
 // The loops around a place.
 
 ghost use Rattle.std.specs.Prelude.{◌≡◌, ◌<◌, ◌≤◌, ◌-◌, [], ◌∷◌, ◌++◌, length, slice_index};
+ghost use Rattle.svr_limits.specs.declared.limit.TheConstants.{LOOP_LIMIT};
 
 use std::marker::Model;
+use svr_limits::LOOP_LIMIT;
 
-/// The indexes of the loops around a place, at most 256 of them, the innermost last.
+/// The indexes of the loops around a place, at most `LOOP_LIMIT` of them, the innermost last.
 #[derive(Clone, Copy)]
 pub struct Env {
     depth: u32,
-    index: [u32; 256],
+    index: [u32; LOOP_LIMIT],
 }
 
 impl Model for Env {
@@ -37,14 +39,14 @@ impl Env {
     {
         Env {
             depth: 0,
-            index: [0; 256],
+            index: [0; LOOP_LIMIT],
         }
     }
 
     /// How many loops there are.
     pub fn depth(&self) -> u32
         ensures depth { result ≡ length self.now }
-        ensures bound { result ≤ 256 }
+        ensures bound { result ≤ LOOP_LIMIT }
     {
         self.depth
     }
@@ -59,7 +61,7 @@ impl Env {
 
     /// Inside one more loop.
     pub fn inner(&self, index: u32) -> Env
-        requires { length self.now < 256 }
+        requires { length self.now < LOOP_LIMIT }
         ensures { result ≡ self.now ++ index ∷ [] }
     {
         let mut indexes = self.index;

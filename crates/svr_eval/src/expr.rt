@@ -1,6 +1,7 @@
 // The value of an expression, at the width and the sign of its context (IEEE 1800-2017, 11.6 to 11.8).
 
 ghost use Rattle.std.specs.Prelude.{◌≡◌, ◌≤◌, ◌<◌, ◌+◌, ◌*◌, ◌^◌, ℕ, [], length};
+ghost use Rattle.svr_limits.specs.declared.limit.TheConstants.{LOOP_LIMIT};
 ghost use Rattle.svr_num.specs.Num.{extend_of};
 ghost use Rattle.svr_typed.specs.ExprTerm.{expr_term, expr_terms, range_term, range_terms, bound_term, reduce as reduce_term, unary as unary_term, binary as binary_term};
 ghost use Rattle.svr_eval.specs.Reading.{blank, reading_of};
@@ -132,7 +133,7 @@ fn reduced(
 ) -> Bits
     requires typed { IsTyped (expr_term body.now) }
     requires reads { CanRead (reading_of a.now) (length env.now + 1) (expr_term body.now) }
-    requires depth { length env.now < 256 }
+    requires depth { length env.now < LOOP_LIMIT }
     requires wide { body.now.width ≤ width }
     requires high { width ≤ 64 }
     ensures value { result.value ≡ spec.node_val (reading_of a.now) env.now 0 signed (reduce_term prop op (expr_term body.now)) width signed }

@@ -13,4 +13,4 @@ pub const PROPERTY_LIMIT: u32 = 1024;
 pub const ELEMENT_LIMIT: u32 = 2048;
 
 /// How many loops stand around a place at the most, those of `foreach` and of array reductions together.
-pub const LOOP_LIMIT: u32 = 256;
+pub const LOOP_LIMIT: usize = 256;

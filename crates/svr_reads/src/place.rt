@@ -1,6 +1,7 @@
 // Which element of an array an expression mentions, where all sizes are known.
 
 ghost use Rattle.std.specs.Prelude.{◌≡◌, ◌<◌, ◌+◌, ◌==◌, ◌&&◌, ◌||◌, [], length, pos};
+ghost use Rattle.svr_limits.specs.declared.limit.TheConstants.{LOOP_LIMIT};
 ghost use Rattle.svr_typed.specs.ExprTerm.{expr_term, expr_terms, range_term, range_terms, bound_term};
 ghost use Rattle.svr_typed.specs.ClassTerm.{flat_term};
 ghost use Rattle.svr_eval.specs.Reading.{reading_of};
@@ -195,7 +196,7 @@ pub(crate) fn placed(e: &TExpr, env: &Env, set: &Sought<'_>) -> bool
 #[tactic(auto, using(crate::proofs::Appended::none_more, crate::proofs::Appended::some_turn))]
 fn placed_in_turns(array: u32, body: &TExpr, env: &Env, set: &Sought<'_>) -> bool
     requires typed { IsTyped (expr_term body.now) }
-    requires room { length env.now < 256 }
+    requires room { length env.now < LOOP_LIMIT }
     requires reads { CanRead (reading_of set.now.state.now) (length env.now + 1) (expr_term body.now) }
     ensures { result ≡ spec.placed_in_turns set.now.props.now (reading_of set.now.state.now) set.now.prop set.now.at array env.now (expr_term body.now) }
 {
