@@ -1,0 +1,4 @@
+pub mod Slots
+pub mod Encodes
+pub mod Fits
+pub mod Fixed

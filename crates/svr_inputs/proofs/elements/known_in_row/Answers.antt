@@ -1,0 +1,18 @@
+use Rattle.std.proofs.Common.{◌∙◌, arith, pos, Vec, Global}
+use Rattle.std.specs.Int.{w128}
+use Rattle.std.proofs.lemmas.Int.{to_z-of_z}
+use Rattle.std.proofs.lemmas.Result.{IfOk-weaker}
+use Rattle.svr_chain.specs.declared.clause.Lit.{Lit}
+use Rattle.svr_gate.specs.Circuit.{GivesNumber}
+use Rattle.svr_gate.proofs.Vectors.{GivesNumber-same}
+use Rattle.svr_eval.specs.Value as spec
+use Rattle.svr_inputs.specs.Inputs.{read_at}
+use Rattle.svr_inputs.proofs.ElementLemmas.{column_outside}
+use Rattle.svr_inputs.proofs.elements.known_in_row.Goals as goal
+
+pub returns-in-None-clause-value : goal.returns-in-None-clause-value
+returns-in-None-clause-value c =
+    IfOk-weaker c.numeral.result (λ (ls : Vec Lit Global). GivesNumber c.numeral.new.b ls.items c.args.own (λ v. 0)) _
+    (λ ls g. GivesNumber-same (λ v. spec.cell_at (read_at c.args.inputs.now v) c.args.prop c.args.inner (pos c.args.row) c.args.column) g
+    (λ v m. column_outside (read_at c.args.inputs.now v) c.args.prop c.args.inner (pos c.args.row) c.args.column (λ k h e. c.in-None.ensures k (omega (arith, h)) (to_z-of_z w128 c.args.column c.ranges.column ∙ e))))
+    c.numeral.ensures.value
