@@ -7,14 +7,15 @@ use Rattle.svr_chain.specs.declared.clause.Lit.{Lit}
 use Rattle.svr_chain.specs.Clauses.{same_sign, flip, has, is_tautology}
 use Rattle.svr_chain.proofs.Sound.{same_lit-true}
 use Rattle.svr_chain.proofs.Same.{all-has, any-has, any-some}
-use Rattle.svr_cdcl.specs.declared.trail.Entry.{Entry}
-use Rattle.svr_cdcl.specs.Trail.{sign_at, value_in, Each, IsGrown}
+use Rattle.svr_trail.specs.declared.Entry.{Entry}
+use Rattle.svr_trail.specs.Trail.{sign_at, value_in, Each, IsGrown, reason_in}
 use Rattle.svr_cdcl.specs.Search.{SearchView, IsSearch}
-use Rattle.svr_cdcl.specs.Learned.{is_decided, is_kept, is_explained, reason_in}
+use Rattle.svr_cdcl.specs.Learned.{is_decided, is_kept, is_explained}
 use Rattle.svr_query.specs.Logged.{is_true, are_true, IsAsked}
 use Rattle.svr_chain.specs.Log.{are_denied}
 use Rattle.svr_chain.proofs.ClauseLemmas.{all-weaker, flip-flip}
-use Rattle.svr_cdcl.proofs.Trails.{decided-from_none, decided-index, none_at_0, not_none, sign_at-take}
+use Rattle.svr_cdcl.proofs.Decided.{decided-from_none, decided-index, none_at_0}
+use Rattle.svr_trail.proofs.Trails.{not_none, sign_at-take}
 
 -- what holds of decided entries alone holds as a propagation goes on
 pub decided-grown : (Q : List Entry → Entry → Type 0) (ks : List (List Lit)) (old new : List Entry) → Each (λ es e. e.reason ≡ None → Q es e) old → IsGrown ks old new

@@ -12,13 +12,13 @@ use Rattle.svr_chain.specs.Clauses.{same_sign, same_lit, IsWithin, AreWithin}
 use Rattle.svr_chain.specs.Log.{step_result, after_steps}
 use Rattle.svr_chain.specs.Valuations.{lit_value}
 use Rattle.svr_chain.proofs.Same.{lit-self, all-from, same-back}
-use Rattle.svr_cdcl.specs.declared.trail.Entry.{Entry}
-use Rattle.svr_cdcl.specs.Trail.{sign_at, value_in, is_false, is_false_but, IsQuiet, IsClosed}
+use Rattle.svr_trail.specs.declared.Entry.{Entry}
+use Rattle.svr_trail.specs.Trail.{sign_at, value_in, is_false, is_false_but, IsQuiet, IsClosed}
 use Rattle.svr_cdcl.specs.Search.{SearchView, IsSearch}
 use Rattle.svr_chain.specs.Settled.{Forces, AreSettled}
 use Rattle.svr_query.specs.Logged.{IsLogged, AreSet}
 use Rattle.svr_chain.proofs.ClauseLemmas.{All-has}
-use Rattle.svr_cdcl.proofs.Trails.{same-are_in, same-closed}
+use Rattle.svr_trail.proofs.Trails.{same-are_in, same-closed}
 
 -- what holds of all clauses that the steps give holds of the first ones
 all-first : (P : List Lit → Type 0) (ss : List StepView) (ks known : List (List Lit)) (n : ℕ) → after_steps ks n ss ≡ Ok known → All P known → All P ks

@@ -10,8 +10,8 @@ use Rattle.svr_chain.specs.declared.clause.Lit.{Lit}
 use Rattle.svr_chain.specs.Clauses.{same_sign, same_lit, flip, has}
 use Rattle.svr_chain.specs.Log.{are_denied}
 use Rattle.svr_chain.proofs.Same.{all-has, all-from, lit-self}
-use Rattle.svr_cdcl.specs.declared.trail.Entry.{Entry}
-use Rattle.svr_cdcl.specs.Trail.{sign_at, value_in, is_false, is_false_but, Each, IsQuiet, IsClosed, IsGrown}
+use Rattle.svr_trail.specs.declared.Entry.{Entry}
+use Rattle.svr_trail.specs.Trail.{sign_at, value_in, is_false, is_false_but, Each, IsQuiet, IsClosed, IsGrown}
 use Rattle.svr_cdcl.specs.Search.{SearchView, IsSearch}
 use Rattle.svr_cdcl.specs.Learned.{IsLowest, is_decided, is_kept, is_explained}
 use Rattle.svr_chain.proofs.Sound.{same_lit-true}
@@ -20,7 +20,8 @@ use Rattle.svr_query.specs.Sweep.{bit_lit, is_refuted, is_begun, open_nodes, IsN
 use Rattle.svr_query.proofs.Asked.{decided-grown}
 use Rattle.svr_query.proofs.Nodes.{node, node-cases, node-first, node-bit, nodes-less, refuted-new}
 use Rattle.svr_chain.proofs.ClauseLemmas.{flip-flip}
-use Rattle.svr_cdcl.proofs.Trails.{decided-index, none_at_0, sign_at-of_take, sign_at-push_same, sign_at-take}
+use Rattle.svr_cdcl.proofs.Decided.{decided-index, none_at_0}
+use Rattle.svr_trail.proofs.Trails.{sign_at-of_take, sign_at-push_same, sign_at-take}
 
 pub swept-grown : (n : ℕ) (assume : List Lit) (ks : List (List Lit)) (old new : List Entry) → Each (IsSwept n assume) old → IsGrown ks old new → Each (IsSwept n assume) new
 swept-grown n assume ks old new a g = decided-grown (λ es e. (sign_at es e.lit.var ≡ None) × ((has assume e.lit ≡ true) ⊎ IsNextBit n assume es e.lit)) ks old new a g

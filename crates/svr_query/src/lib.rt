@@ -5,6 +5,7 @@ mod limit;
 mod memory;
 mod model;
 mod order;
+mod propagate;
 mod restarts;
 mod run;
 mod solver;

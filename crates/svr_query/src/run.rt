@@ -3,12 +3,13 @@
 ghost use Rattle.std.specs.Prelude.{◌≡◌, ◌+◌, ◌≤◌, ◌<◌, ℕ, true, false, [], IfOk, IfSome, IfNone, IsSome, None, List, length, take};
 ghost use Rattle.svr_chain.specs.declared.clause.Lit.{Lit};
 ghost use Rattle.svr_chain.specs.Clauses.{AreWithin, IsWithin, is_tautology};
-ghost use Rattle.svr_cdcl.specs.Trail.{sign_at, value_in};
+ghost use Rattle.svr_trail.specs.Trail.{sign_at, value_in};
 ghost use Rattle.svr_query.specs.Found.{IsAssumed, IsFound};
 ghost use Rattle.svr_query.specs.Logged.{IsLogged};
 
 use crate::memory::NoMemory;
 use crate::order::Order;
+use crate::propagate::propagate;
 use crate::restarts::Restarts;
 use std::alloc::Global;
 use svr_cdcl::{Learned, Search};
@@ -115,7 +116,7 @@ pub fn run(
     let _ = search.level();
     let mut made = 0;
     'search: while made < budget {
-        match search.propagate() {
+        match propagate(search) {
             Some(number) => {
                 if search.level() == 0 {
                     let explained = search.explain(number, None)?;

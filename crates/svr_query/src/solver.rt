@@ -2,13 +2,13 @@
 
 ghost use Rattle.std.specs.Prelude.{◌≡◌, ◌≤◌, ◌<◌, ◌+◌, ℕ, true, false, [], None, Some, IfOk, IfSome, IfNone, length, take};
 ghost use Rattle.std.specs.List.{All};
-ghost use Rattle.svr_chain.specs.Clauses.{AreWithin, is_tautology, is_within};
-ghost use Rattle.svr_chain.specs.Log.{are_denied, is_repeated};
+ghost use Rattle.svr_chain.specs.Clauses.{AreWithin, is_tautology};
+ghost use Rattle.svr_chain.specs.Log.{are_denied};
 ghost use Rattle.svr_cdcl.specs.Learned.{Derives};
 ghost use Rattle.svr_chain.specs.Settled.{AreSettled};
 ghost use Rattle.svr_query.specs.Answer.{AreGiven, IsAnswer, IsModel, IsRefutation};
 ghost use Rattle.svr_query.specs.Bits.{AreFirst};
-ghost use Rattle.svr_query.specs.Logged.{AreValues, AreWished, IsLogged, IsWithinOne};
+ghost use Rattle.svr_query.specs.Logged.{AreValues, AreWished, IsLogged};
 
 use crate::limit::{Limit, search_within};
 use crate::memory::NoMemory;
@@ -17,7 +17,7 @@ use crate::run::Found;
 use std::alloc::Global;
 use std::marker::Model;
 use svr_cdcl::{Learned, Search};
-use svr_chain::{Clause, Cnf, Lit, Refutation, Step, are_within};
+use svr_chain::{Clause, Cnf, Lit, Refutation, Step};
 
 /// The answer to a question.
 #[derive(Debug, Drop)]
@@ -64,21 +64,6 @@ fn copy_steps(alloc: Global, steps: &[Step]) -> Result<Vec<Step>, NoMemory>
     Ok(copies)
 }
 
-/// The number of a clause that is a part of this one.
-fn find_part(clauses: &[Clause], lits: &[Lit]) -> Option<u64>
-    ensures some { IfSome result (IsWithinOne clauses.now lits.now) }
-    ensures none { IfNone result (is_repeated clauses.now lits.now ≡ false) }
-{
-    let mut number = 1;
-    for clause in clauses {
-        if are_within(clause.lits(), lits) {
-            return Some(number);
-        }
-        number += 1;
-    }
-    None
-}
-
 /// The values of all variables, the preferred ones where they are open.
 fn values_of(alloc: Global, search: &Search, prefer: &[bool]) -> Result<Vec<bool>, NoMemory>
     requires { length prefer.now ≡ search.now.vars }
@@ -115,17 +100,17 @@ fn conclude(
     ensures { IfOk result (IsRefutation cnf.now assume.now) }
 {
     let mut steps = copy_steps(alloc, steps)?;
-    if let Some(number) = find_part(search.clauses(), explained.lits.lits()) {
+    if let Some(number) = search.find_part(explained.lits.lits()) {
         return Ok(Refutation {
             steps,
             goal: Some(number),
         });
     }
     steps.push(explained.step)?;
-    let number = search.clauses().len() as u64 + 1;
+    let next = search.next_number();
     Ok(Refutation {
         steps,
-        goal: Some(number),
+        goal: Some(next),
     })
 }
 

@@ -7,6 +7,7 @@ ghost use Rattle.svr_query.specs.Found.{IsFound};
 ghost use Rattle.svr_query.specs.Logged.{IsLogged};
 
 use crate::memory::NoMemory;
+use crate::propagate::propagate;
 use crate::run::{Assumed, Found, first_open, next_assumed, restart};
 use svr_cdcl::Search;
 use svr_chain::{Clause, Lit, Step, are_denied};
@@ -58,7 +59,7 @@ pub fn sweep(
     restart(search);
     let _ = search.level();
     'sweep: loop {
-        match search.propagate() {
+        match propagate(search) {
             Some(number) => {
                 let _ = search.level();
                 let explained = search.explain(number, None)?;

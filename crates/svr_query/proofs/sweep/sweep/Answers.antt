@@ -5,10 +5,11 @@ use Rattle.svr_chain.specs.declared.clause.Lit.{Lit}
 use Rattle.svr_chain.specs.Views.{StepView}
 use Rattle.svr_chain.specs.Clauses.{flip, has, IsWithin, AreWithin}
 use Rattle.svr_chain.specs.Log.{are_denied}
-use Rattle.svr_cdcl.specs.declared.trail.Entry.{Entry}
-use Rattle.svr_cdcl.specs.Trail.{Each, IsClosed, sign_at, value_in}
+use Rattle.svr_trail.specs.declared.Entry.{Entry}
+use Rattle.svr_chain.specs.Same.{SameClauses}
+use Rattle.svr_trail.specs.Trail.{Each, IsClosed, sign_at, value_in, reason_in}
 use Rattle.svr_cdcl.specs.Search.{at_end, IsSearch}
-use Rattle.svr_cdcl.specs.Learned.{IsLowest, is_decided, is_explained, reason_in}
+use Rattle.svr_cdcl.specs.Learned.{IsLowest, is_decided, is_explained}
 use Rattle.svr_query.specs.Logged.{IsLogged, IsAsked, AreSet, are_true}
 use Rattle.svr_query.specs.Sweep.{IsSwept, IsNextBit, open_nodes}
 use Rattle.svr_query.proofs.Asked.{each-take, decided-has, never-true, denied-from, kept-flip, reason-there}
@@ -19,7 +20,7 @@ use Rattle.svr_query.proofs.Steps.{one_node_less, one_decision_more}
 use Rattle.svr_query.proofs.Swept.{swept-grown, swept-start, swept-asked, lowest-there, left-there, new-node}
 use Rattle.svr_query.proofs.sweep.sweep.Goals as goal
 use Rattle.svr_chain.proofs.ClauseLemmas.{All-has}
-use Rattle.svr_cdcl.proofs.Trails.{Each-push, sign_at-open}
+use Rattle.svr_trail.proofs.Trails.{Each-push, sign_at-open}
 
 pub sweep-init : goal.sweep-init
 sweep-init c =
@@ -37,21 +38,21 @@ sweep-init c =
 
 pub returns-in_err-explained-in-Some-clause-logged : goal.returns-in_err-explained-in-Some-clause-logged
 returns-in_err-explained-in-Some-clause-logged c =
-    logged-same c.args.cnf.now c.sweep.steps.items c.sweep.search c.propagate.new.self c.sweep.invariant.logged c.propagate.ensures.same
+    logged-same c.args.cnf.now c.sweep.steps.items c.sweep.search c.propagate.new.search c.sweep.invariant.logged c.propagate.ensures.same
 
 pub returns-in_err-explained-in-Some-clause-few : goal.returns-in_err-explained-in-Some-clause-few
 returns-in_err-explained-in-Some-clause-few c = omega (arith, c.sweep.invariant.few)
 
 pub returns-then-are_denied-clause-logged : goal.returns-then-are_denied-clause-logged
 returns-then-are_denied-clause-logged c =
-    logged-same c.args.cnf.now c.sweep.steps.items c.sweep.search c.propagate.new.self c.sweep.invariant.logged c.propagate.ensures.same
+    logged-same c.args.cnf.now c.sweep.steps.items c.sweep.search c.propagate.new.search c.sweep.invariant.logged c.propagate.ensures.same
 
 pub returns-then-are_denied-clause-few : goal.returns-then-are_denied-clause-few
 returns-then-are_denied-clause-few c = omega (arith, c.sweep.invariant.few)
 
 pub returns-in_err-reserve-in-Some-clause-logged : goal.returns-in_err-reserve-in-Some-clause-logged
 returns-in_err-reserve-in-Some-clause-logged c =
-    let s = c.propagate.new.self in
+    let s = c.propagate.new.search in
     let assume = c.args.assume.now in
     let e = c.in_ok-explained-in-Some.explained in
     let d : are_denied assume e.lits ≡ false = ap (are_denied assume) (sym c.lits.ensures) ∙ (sym c.are_denied.ensures ∙ c.if-are_denied.false) in
@@ -64,7 +65,7 @@ returns-in_err-reserve-in-Some-clause-few c = rw c.reserve.ensures.items (omega 
 
 pub learn-requires-clause-within : goal.learn-requires-clause-within
 learn-requires-clause-within c =
-    let s = c.propagate.new.self in
+    let s = c.propagate.new.search in
     let assume = c.args.assume.now in
     let e = c.in_ok-explained-in-Some.explained in
     let d : are_denied assume e.lits ≡ false = ap (are_denied assume) (sym c.lits.ensures) ∙ (sym c.are_denied.ensures ∙ c.if-are_denied.false) in
@@ -74,7 +75,7 @@ learn-requires-clause-within c =
 
 pub returns-in_err-learn-in-Some-clause-logged : goal.returns-in_err-learn-in-Some-clause-logged
 returns-in_err-learn-in-Some-clause-logged c =
-    let s = c.propagate.new.self in
+    let s = c.propagate.new.search in
     let assume = c.args.assume.now in
     let e = c.in_ok-explained-in-Some.explained in
     let d : are_denied assume e.lits ≡ false = ap (are_denied assume) (sym c.lits.ensures) ∙ (sym c.are_denied.ensures ∙ c.if-are_denied.false) in
@@ -90,7 +91,7 @@ pub sweep-smaller-in-Some : goal.sweep-smaller-in-Some
 sweep-smaller-in-Some c =
     let i = c.sweep.invariant in
     let first = c.sweep.search in
-    let s = c.propagate.new.self in
+    let s = c.propagate.new.search in
     let b = c.backjump.new.self in
     let t = c.learn.new.self in
     let assume = c.args.assume.now in
@@ -103,13 +104,13 @@ sweep-smaller-in-Some c =
     let v2 : b.vars ≡ s.vars = ap (λ z. z.vars) back in
     let v3 : t.vars ≡ b.vars = ap (λ z. z.vars) c.in_ok-learn-in-Some.ensures.kept in
     let k2 : b.clauses ≡ s.clauses = ap (λ z. z.clauses) back in
-    let k3 : t.clauses ≡ b.clauses ++ e.lits ∷ [] = ap (λ z. z.clauses) c.in_ok-learn-in-Some.ensures.kept in
-    let k : t.clauses ≡ s.clauses ++ e.lits ∷ [] = k3 ∙ ap (λ z. z ++ e.lits ∷ []) k2 in
+    let k3 : SameClauses t.clauses (b.clauses ++ e.lits ∷ []) = c.in_ok-learn-in-Some.ensures.clauses in
+    let k : SameClauses t.clauses (s.clauses ++ e.lits ∷ []) = subst (λ z. SameClauses t.clauses (z ++ e.lits ∷ [])) k2 k3 in
     let sw : Each (IsSwept n assume) s.entries = swept-grown n assume s.clauses first.entries s.entries i.swept c.propagate.ensures.grown in
     let x : is_explained s.entries None e.lits ≡ true = c.in_ok-explained-in-Some.ensures.explained in
     let less : open_nodes (s.clauses ++ e.lits ∷ []) assume 0 n < open_nodes s.clauses assume 0 n = new-node s c.level-in-Some.ensures.kept n assume sw e.lits x d in
     let same : open_nodes first.clauses assume 0 n ≡ open_nodes s.clauses assume 0 n = nodes-same first.clauses s.clauses assume 0 n c.propagate.ensures.same in
-    let now : open_nodes t.clauses assume 0 n ≡ open_nodes (s.clauses ++ e.lits ∷ []) assume 0 n = ap (λ z. open_nodes z assume 0 n) k in
+    let now : open_nodes t.clauses assume 0 n ≡ open_nodes (s.clauses ++ e.lits ∷ []) assume 0 n = nodes-same t.clauses (s.clauses ++ e.lits ∷ []) assume 0 n k in
     one_node_less (open_nodes t.clauses assume 0 n) (open_nodes first.clauses assume 0 n) t.vars first.vars (length t.entries) (first.vars - length first.entries)
     (omega (arith, less, same, now)) (v3 ∙ (v2 ∙ v1))
 
@@ -117,7 +118,7 @@ pub sweep-preserved-in-Some : goal.sweep-preserved-in-Some
 sweep-preserved-in-Some c =
     let i = c.sweep.invariant in
     let first = c.sweep.search in
-    let s = c.propagate.new.self in
+    let s = c.propagate.new.search in
     let b = c.backjump.new.self in
     let t = c.learn.new.self in
     let assume = c.args.assume.now in
@@ -132,13 +133,13 @@ sweep-preserved-in-Some c =
     let v2 : b.vars ≡ s.vars = ap (λ z. z.vars) back in
     let v3 : t.vars ≡ b.vars = ap (λ z. z.vars) c.in_ok-learn-in-Some.ensures.kept in
     let k2 : b.clauses ≡ s.clauses = ap (λ z. z.clauses) back in
-    let k3 : t.clauses ≡ b.clauses ++ e.lits ∷ [] = ap (λ z. z.clauses) c.in_ok-learn-in-Some.ensures.kept in
-    let k : t.clauses ≡ s.clauses ++ e.lits ∷ [] = k3 ∙ ap (λ z. z ++ e.lits ∷ []) k2 in
+    let k3 : SameClauses t.clauses (b.clauses ++ e.lits ∷ []) = c.in_ok-learn-in-Some.ensures.clauses in
+    let k : SameClauses t.clauses (s.clauses ++ e.lits ∷ []) = subst (λ z. SameClauses t.clauses (z ++ e.lits ∷ [])) k2 k3 in
     let sw : Each (IsSwept n assume) s.entries = swept-grown n assume s.clauses first.entries s.entries i.swept c.propagate.ensures.grown in
     let x : is_explained s.entries None e.lits ≡ true = c.in_ok-explained-in-Some.ensures.explained in
     let less : open_nodes (s.clauses ++ e.lits ∷ []) assume 0 n < open_nodes s.clauses assume 0 n = new-node s kept n assume sw e.lits x d in
     let same : open_nodes first.clauses assume 0 n ≡ open_nodes s.clauses assume 0 n = nodes-same first.clauses s.clauses assume 0 n c.propagate.ensures.same in
-    let now : open_nodes t.clauses assume 0 n ≡ open_nodes (s.clauses ++ e.lits ∷ []) assume 0 n = ap (λ z. open_nodes z assume 0 n) k in
+    let now : open_nodes t.clauses assume 0 n ≡ open_nodes (s.clauses ++ e.lits ∷ []) assume 0 n = nodes-same t.clauses (s.clauses ++ e.lits ∷ []) assume 0 n k in
     let p : c.push_reserved.new.self.items ≡ c.sweep.steps.items ++ e.step ∷ []
     = c.push_reserved.ensures.items ∙ ap (λ (z : List StepView). z ++ e.step ∷ []) c.reserve.ensures.items in
     let l : IsLogged c.args.cnf.now c.sweep.steps.items s = logged-same c.args.cnf.now c.sweep.steps.items first s i.logged c.propagate.ensures.same in
@@ -164,16 +165,16 @@ sweep-preserved-in-Some c =
 pub decide-requires-clause-within : goal.decide-requires-clause-within
 decide-requires-clause-within c =
     let i = c.sweep.invariant in
-    let p : c.propagate.new.self.vars ≡ c.sweep.search.vars = ap (λ z. z.vars) c.propagate.ensures.kept in
+    let p : c.propagate.new.search.vars ≡ c.sweep.search.vars = ap (λ z. z.vars) c.propagate.ensures.kept in
     let r : c.restart.new.search.vars ≡ c.args.search.now.vars = c.restart.ensures.vars in
-    let w : All (IsWithin c.propagate.new.self.vars) c.args.assume.now = rw (p, i.vars, r) c.requires.within in
+    let w : All (IsWithin c.propagate.new.search.vars) c.args.assume.now = rw (p, i.vars, r) c.requires.within in
     let h : has c.args.assume.now c.in-Decide.lit ≡ true = c.in-Decide.ensures.0 in
-    All-has (IsWithin c.propagate.new.self.vars) c.args.assume.now c.in-Decide.lit w h
+    All-has (IsWithin c.propagate.new.search.vars) c.args.assume.now c.in-Decide.lit w h
 
 pub sweep-smaller-in-Decide : goal.sweep-smaller-in-Decide
 sweep-smaller-in-Decide c =
     let first = c.sweep.search in
-    let s = c.propagate.new.self in
+    let s = c.propagate.new.search in
     let t = c.decide.new.self in
     let assume = c.args.assume.now in
     let n : ℕ = length c.args.prefer.now in
@@ -193,7 +194,7 @@ pub sweep-preserved-in-Decide : goal.sweep-preserved-in-Decide
 sweep-preserved-in-Decide c =
     let i = c.sweep.invariant in
     let first = c.sweep.search in
-    let s = c.propagate.new.self in
+    let s = c.propagate.new.search in
     let t = c.decide.new.self in
     let assume = c.args.assume.now in
     let n : ℕ = length c.args.prefer.now in
@@ -221,7 +222,7 @@ sweep-preserved-in-Decide c =
 pub unreachable-requires : goal.unreachable-requires
 unreachable-requires c =
     let i = c.sweep.invariant in
-    let s = c.propagate.new.self in
+    let s = c.propagate.new.search in
     let assume = c.args.assume.now in
     let n : ℕ = length c.args.prefer.now in
     let l : Lit = c.in-Denied.lit in
@@ -235,14 +236,14 @@ unreachable-requires c =
 
 pub returns-in_err-explained-in-Denied-clause-logged : goal.returns-in_err-explained-in-Denied-clause-logged
 returns-in_err-explained-in-Denied-clause-logged c =
-    logged-same c.args.cnf.now c.sweep.steps.items c.sweep.search c.propagate.new.self c.sweep.invariant.logged c.propagate.ensures.same
+    logged-same c.args.cnf.now c.sweep.steps.items c.sweep.search c.propagate.new.search c.sweep.invariant.logged c.propagate.ensures.same
 
 pub returns-in_err-explained-in-Denied-clause-few : goal.returns-in_err-explained-in-Denied-clause-few
 returns-in_err-explained-in-Denied-clause-few c = omega (arith, c.sweep.invariant.few)
 
 pub returns-in-Denied-clause-logged : goal.returns-in-Denied-clause-logged
 returns-in-Denied-clause-logged c =
-    logged-same c.args.cnf.now c.sweep.steps.items c.sweep.search c.propagate.new.self c.sweep.invariant.logged c.propagate.ensures.same
+    logged-same c.args.cnf.now c.sweep.steps.items c.sweep.search c.propagate.new.search c.sweep.invariant.logged c.propagate.ensures.same
 
 pub returns-in-Denied-clause-few : goal.returns-in-Denied-clause-few
 returns-in-Denied-clause-few c = omega (arith, c.sweep.invariant.few)
@@ -250,7 +251,7 @@ returns-in-Denied-clause-few c = omega (arith, c.sweep.invariant.few)
 pub returns-in-Denied-clause-found : goal.returns-in-Denied-clause-found
 returns-in-Denied-clause-found c =
     let i = c.sweep.invariant in
-    let s = c.propagate.new.self in
+    let s = c.propagate.new.search in
     let assume = c.args.assume.now in
     let n : ℕ = length c.args.prefer.now in
     let l : Lit = c.in-Denied.lit in
@@ -265,7 +266,7 @@ returns-in-Denied-clause-found c =
 
 pub returns-in-None-first_open-clause-logged : goal.returns-in-None-first_open-clause-logged
 returns-in-None-first_open-clause-logged c =
-    logged-same c.args.cnf.now c.sweep.steps.items c.sweep.search c.propagate.new.self c.sweep.invariant.logged c.propagate.ensures.same
+    logged-same c.args.cnf.now c.sweep.steps.items c.sweep.search c.propagate.new.search c.sweep.invariant.logged c.propagate.ensures.same
 
 pub returns-in-None-first_open-clause-few : goal.returns-in-None-first_open-clause-few
 returns-in-None-first_open-clause-few c = omega (arith, c.sweep.invariant.few)
@@ -273,7 +274,7 @@ returns-in-None-first_open-clause-few c = omega (arith, c.sweep.invariant.few)
 pub returns-in-None-first_open-clause-found : goal.returns-in-None-first_open-clause-found
 returns-in-None-first_open-clause-found c =
     let i = c.sweep.invariant in
-    let s = c.propagate.new.self in
+    let s = c.propagate.new.search in
     let cnf = c.args.cnf.now in
     let n : ℕ = length c.args.prefer.now in
     let ys : List StepView = c.sweep.steps.items in
@@ -290,7 +291,7 @@ returns-in-None-first_open-clause-found c =
 pub sweep-smaller : goal.sweep-smaller
 sweep-smaller c =
     let first = c.sweep.search in
-    let s = c.propagate.new.self in
+    let s = c.propagate.new.search in
     let t = c.decide-in-Some-first_open.new.self in
     let assume = c.args.assume.now in
     let n : ℕ = length c.args.prefer.now in
@@ -310,7 +311,7 @@ pub sweep-preserved : goal.sweep-preserved
 sweep-preserved c =
     let i = c.sweep.invariant in
     let first = c.sweep.search in
-    let s = c.propagate.new.self in
+    let s = c.propagate.new.search in
     let t = c.decide-in-Some-first_open.new.self in
     let assume = c.args.assume.now in
     let n : ℕ = length c.args.prefer.now in

@@ -2,7 +2,7 @@ use Rattle.std.proofs.Common.{◌≡◌, ℕ, ◌+◌, ◌-◌, ◌<◌, ◌≤�
 use Rattle.std.proofs.lemmas.Bool.{cases_eq}
 use Rattle.svr_chain.specs.declared.clause.Lit.{Lit}
 use Rattle.svr_chain.specs.Clauses.{AreWithin}
-use Rattle.svr_chain.proofs.Same.{same-self}
+use Rattle.svr_chain.proofs.Same.{same-back}
 use Rattle.svr_query.specs.Bits.{AreFirst}
 use Rattle.svr_query.proofs.solver.Solver.with_bits.Goals as goal
 
@@ -23,12 +23,11 @@ few-bits vars bits w f =
 pub invariant_of-result : goal.invariant_of-result
 invariant_of-result c =
     let s = c.in_ok-search.search in
-    let e : s.clauses ≡ c.args.cnf.clauses.items = ap (λ z. z.clauses) c.in_ok-search.ensures in
-    let v : s.vars ≡ c.args.cnf.vars = ap (λ z. z.vars) c.in_ok-search.ensures in
+    let v : s.vars ≡ c.args.cnf.vars = ap (λ z. z.vars) c.in_ok-search.ensures.fresh in
     let n : c.len.result ≡ length c.args.bits.items = c.len.ensures ∙ c.args.bits.ok.0 in
     let f : length c.args.bits.items ≤ c.args.cnf.vars = few-bits c.args.cnf.vars c.args.bits.items c.requires.within c.requires.first in
     record {
       vars = v;
-      logged = (c.args.cnf.clauses.items, rw c.new-2.ensures.items refl, rw e (same-self c.args.cnf.clauses.items));
+      logged = (c.args.cnf.clauses.items, rw c.new-2.ensures.items refl, same-back c.in_ok-search.search.clauses c.args.cnf.clauses.items c.in_ok-search.ensures.same);
       bits = rw (n, v) (f, c.requires.settled);
     }

@@ -1,0 +1,246 @@
+-- The walk back to one literal of the level, and the literals that are left
+use Rattle.std.proofs.Common.{◌≡◌, ℕ, suc, zero, ◌+◌, ◌-◌, ◌<◌, true, false, ◌&&◌, ◌||◌, not, nat_eq, List, [], ◌∷◌, ◌++◌, length, refl, ap, sym, ◌∙◌, subst, arith, Option, Some, None, Ok, get_or, take, inl, inr}
+use Rattle.std.specs.Prelude.{is_some, IsSome}
+use Rattle.std.specs.Option.{option_map}
+use Rattle.std.proofs.lemmas.Bool.{and_parts, and_from, or_cases, or_left, or_right, not-true, both_ways, cases_Bool, cases_lt, cond-true, cond-false, eq-eqb, eqb-true, false≢true, false_from_ne_true}
+use Rattle.svr_chain.specs.declared.clause.Lit.{Lit}
+use Rattle.svr_chain.specs.declared.log.Link.{Link}
+use Rattle.svr_chain.specs.Clauses.{same_sign, same_lit, flip, has, resolvent}
+use Rattle.svr_chain.specs.Log.{named}
+use Rattle.svr_chain.specs.Same.{SameLits, SameResult}
+use Rattle.svr_chain.proofs.Sound.{same_lit-true}
+use Rattle.svr_chain.proofs.Same.{iff_eq, lit-self, all-has, all-from, all-same, has-resolvent}
+use Rattle.svr_chain.proofs.ClauseLemmas.{flip-flip, named-all}
+use Rattle.svr_trail.specs.declared.Entry.{Entry}
+use Rattle.svr_trail.specs.Trail.{sign_at, value_in, is_false, is_false_but, is_falsified, Forces, IsClosed, IsFault, IsQuiet, IsUnit, WasOpen}
+use Rattle.svr_trail.proofs.Trails.{quiet-not_false}
+use Rattle.svr_trail.proofs.TableLemmas.{sign_at-take_none}
+use Rattle.svr_watch.proofs.Values.{false-later, false-whole}
+use Rattle.svr_watch.proofs.Learned.{unit-same}
+use Rattle.svr_cdcl.specs.Learned.{Accepts, Derives}
+use Rattle.svr_cdcl.proofs.Asserting.{accepted-from}
+use Rattle.svr_cdcl.specs.Marks.{AreFalse, Marks, is_last, is_marked, lower_lits}
+use Rattle.svr_cdcl.proofs.Chains.{false-less}
+use Rattle.svr_cdcl.proofs.Walk.{Walk, walk-begins, walk-skips, walk-resolves, begins-clause, skips-clause, resolves-clause, pivot-has, false-one}
+
+marked-more : (m : Entry) (ms : List Entry) (v : ℕ) → is_marked ms v ≡ true → is_marked (m ∷ ms) v ≡ true
+marked-more m ms v h =
+    elim (cases_Bool (nat_eq m.lit.var v)) [
+      | inl t ↦ ap is_some (cond-true _ _ _ t)
+      | inr t ↦ ap is_some (cond-false _ _ _ t) ∙ h
+    ]
+
+marked-first : (m : Entry) (ms : List Entry) → is_marked (m ∷ ms) m.lit.var ≡ true
+marked-first m ms = ap is_some (cond-true _ _ _ (eq-eqb m.lit.var m.lit.var refl))
+
+marked-rest : (m : Entry) (ms : List Entry) (v : ℕ) → nat_eq m.lit.var v ≡ false → is_marked (m ∷ ms) v ≡ true → is_marked ms v ≡ true
+marked-rest m ms v t h = ap is_some (sym (cond-false _ _ _ t)) ∙ h
+
+-- the marked literals that are false by the first entries
+pub lower-from : (es : List Entry) (base : ℕ) (ms : List Entry) (x : Lit) → has (lower_lits es base ms) x ≡ true → (is_false (value_in (take base es) x) ≡ true) × (is_marked ms x.var ≡ true)
+lower-from es base [] x h = absurd (false≢true h)
+lower-from es base (m ∷ ms) x h =
+    elim (cases_Bool (is_false (value_in (take base es) m.lit))) [
+      | inl f ↦
+          let g : (same_lit m.lit x || has (lower_lits es base ms) x) ≡ true = ap (λ z. has z x) (sym (cond-true _ _ _ f)) ∙ h in
+          elim (or_cases (same_lit m.lit x) (has (lower_lits es base ms) x) g) [
+            | inl s ↦
+                let q : m.lit ≡ x = same_lit-true m.lit x s in
+                (ap (λ z. is_false (value_in (take base es) z)) (sym q) ∙ f, ap (λ (z : Lit). is_marked (m ∷ ms) z.var) (sym q) ∙ marked-first m ms)
+            | inr s ↦ let r = lower-from es base ms x s in (r.0, marked-more m ms x.var r.1)
+          ]
+      | inr f ↦ let r = lower-from es base ms x (ap (λ z. has z x) (sym (cond-false _ _ _ f)) ∙ h) in (r.0, marked-more m ms x.var r.1)
+    ]
+
+pub lower-to : (es : List Entry) (base : ℕ) (ms : List Entry) (x : Lit) → AreFalse es ms → is_false (value_in (take base es) x) ≡ true → is_marked ms x.var ≡ true → has (lower_lits es base ms) x ≡ true
+lower-to es base [] x a f h = absurd (false≢true h)
+lower-to es base (m ∷ ms) x a f h =
+    elim (cases_Bool (nat_eq m.lit.var x.var)) [
+      | inl t ↦
+          let q : m.lit ≡ x = false-one es m.lit x (a zero m (omega arith)) (false-whole es base x f) (eqb-true m.lit.var x.var t) in
+          let g : is_false (value_in (take base es) m.lit) ≡ true = ap (λ z. is_false (value_in (take base es) z)) q ∙ f in
+          ap (λ z. has z x) (cond-true _ _ _ g) ∙ or_left (same_lit m.lit x) (has (lower_lits es base ms) x) (ap (λ z. same_lit z x) q ∙ lit-self x)
+      | inr t ↦
+          let r : has (lower_lits es base ms) x ≡ true = lower-to es base ms x (λ i d o. a (suc i) d (omega arith)) f (marked-rest m ms x.var t h) in
+          elim (cases_Bool (is_false (value_in (take base es) m.lit))) [
+            | inl g ↦ ap (λ z. has z x) (cond-true _ _ _ g) ∙ or_right (same_lit m.lit x) (has (lower_lits es base ms) x) r
+            | inr g ↦ ap (λ z. has z x) (cond-false _ _ _ g) ∙ r
+          ]
+    ]
+
+-- no marked literal but the pivot is left of the level
+pub last-from : (es : List Entry) (base left : ℕ) (p : Lit) (ms : List Entry) (x : Lit) → AreFalse es ms → is_last es base left p ms ≡ true → is_marked ms x.var ≡ true
+    → is_false (value_in (take left es) x) ≡ true → (same_lit x p || is_false (value_in (take base es) x)) ≡ true
+last-from es base left p [] x a l h f = absurd (false≢true h)
+last-from es base left p (m ∷ ms) x a l h f =
+    let b = and_parts (same_lit m.lit p || (is_false (value_in (take base es) m.lit) || not (is_false (value_in (take left es) m.lit)))) (is_last es base left p ms) l in
+    elim (cases_Bool (nat_eq m.lit.var x.var)) [
+      | inl t ↦
+          let q : m.lit ≡ x = false-one es m.lit x (a zero m (omega arith)) (false-whole es left x f) (eqb-true m.lit.var x.var t) in
+          let g : (same_lit x p || (is_false (value_in (take base es) x) || not (is_false (value_in (take left es) x)))) ≡ true
+          = ap (λ z. same_lit z p || (is_false (value_in (take base es) z) || not (is_false (value_in (take left es) z)))) (sym q) ∙ b.0 in
+          elim (or_cases (same_lit x p) (is_false (value_in (take base es) x) || not (is_false (value_in (take left es) x))) g) [
+            | inl s ↦ or_left (same_lit x p) (is_false (value_in (take base es) x)) s
+            | inr s ↦ elim (or_cases (is_false (value_in (take base es) x)) (not (is_false (value_in (take left es) x))) s) [
+              | inl r ↦ or_right (same_lit x p) (is_false (value_in (take base es) x)) r
+              | inr r ↦ absurd (both_ways (is_false (value_in (take left es) x)) (not-true (is_false (value_in (take left es) x)) r) f)
+            ]
+          ]
+      | inr t ↦ last-from es base left p ms x (λ i d o. a (suc i) d (omega arith)) b.1 (marked-rest m ms x.var t h) f
+    ]
+
+pub last-to : (es : List Entry) (base left : ℕ) (p : Lit) (ms : List Entry)
+    → ((x : Lit) → is_marked ms x.var ≡ true → is_false (value_in (take left es) x) ≡ true → (same_lit x p || is_false (value_in (take base es) x)) ≡ true) → is_last es base left p ms ≡ true
+last-to es base left p [] f = refl
+last-to es base left p (m ∷ ms) f =
+    and_from (same_lit m.lit p || (is_false (value_in (take base es) m.lit) || not (is_false (value_in (take left es) m.lit)))) (is_last es base left p ms)
+    first
+    (last-to es base left p ms (λ x h g. f x (marked-more m ms x.var h) g))
+  where
+    first : (same_lit m.lit p || (is_false (value_in (take base es) m.lit) || not (is_false (value_in (take left es) m.lit)))) ≡ true
+    first =
+        elim (cases_Bool (is_false (value_in (take left es) m.lit))) [
+          | inl g ↦ elim (or_cases (same_lit m.lit p) (is_false (value_in (take base es) m.lit)) (f m.lit (marked-first m ms) g)) [
+            | inl s ↦ or_left (same_lit m.lit p) (is_false (value_in (take base es) m.lit) || not (is_false (value_in (take left es) m.lit))) s
+            | inr s ↦ or_right (same_lit m.lit p) (is_false (value_in (take base es) m.lit) || not (is_false (value_in (take left es) m.lit)))
+                (or_left (is_false (value_in (take base es) m.lit)) (not (is_false (value_in (take left es) m.lit))) s)
+          ]
+          | inr g ↦ or_right (same_lit m.lit p) (is_false (value_in (take base es) m.lit) || not (is_false (value_in (take left es) m.lit)))
+              (or_right (is_false (value_in (take base es) m.lit)) (not (is_false (value_in (take left es) m.lit))) (ap not g))
+        ]
+
+-- what the walk back to one literal of the level keeps
+pub record AnalysisKeeps (ks : List (List Lit)) (es : List Entry) (base number : ℕ) (ms : List Entry) (links : List Link) (left : ℕ) : Type 0 where
+  pub walk : Walk ks es number ms [] links left
+  pub here : is_falsified (take base es) walk.clause ≡ false
+
+left-false : (ks : List (List Lit)) (es : List Entry) (number : ℕ) (ms : List Entry) (links : List Link) (left : ℕ) (w : Walk ks es number ms [] links left) (x : Lit) → has w.clause x ≡ true
+    → (is_false (value_in (take left es) x) ≡ true) × (is_marked ms x.var ≡ true)
+left-false ks es number ms links left w x h = and_parts (is_false (value_in (take left es) x)) (is_marked ms x.var) (sym (w.same x) ∙ h)
+
+-- the walk has not come to the start of the level
+pub above_base : (ks : List (List Lit)) (es : List Entry) (base number : ℕ) (ms : List Entry) (links : List Link) (left : ℕ) → AnalysisKeeps ks es base number ms links left → base < left
+above_base ks es base number ms links left k =
+    elim (cases_lt base left) [
+      | inl h ↦ h
+      | inr h ↦ absurd (both_ways (is_falsified (take base es) k.walk.clause) k.here
+          (all-from (λ x. is_false (value_in (take base es) x)) k.walk.clause (λ x g. false-later es left base x h (left-false ks es number ms links left k.walk x g).0)))
+    ]
+
+pub analysis-begins : (ks : List (List Lit)) (es ms : List Entry) (base number : ℕ) → IsClosed (take base es) ks → (f : IsFault ks es number) → AreFalse es ms → Marks [] ms None f.0
+    → AnalysisKeeps ks es base number ms [] (length es)
+analysis-begins ks es ms base number q f a m = record {
+  walk = walk-begins ks es ms number None f.0 f.1 f.2 tt a m;
+  here = ap (is_falsified (take base es)) (begins-clause ks es ms number None f.0 f.1 f.2 tt a m) ∙ false_from_ne_true (is_falsified (take base es) f.0) (λ t. quiet-not_false (take base es) f.0 (named-all (IsQuiet (take base es)) ks number f.0 q f.1) t);
+}
+
+module _ (ks : List (List Lit)) (es : List Entry) (base number : ℕ) (ms : List Entry) (links : List Link) (left : ℕ) (e : Entry)
+    (k : AnalysisKeeps ks es base number ms links left) (g : e ≡ get_or es (left - 1) e) (o : WasOpen (take (left - 1) es) e) where
+  above : base < left
+  above = above_base ks es base number ms links left k
+
+  pub in_range : left - 1 < length es
+  in_range = let z = k.walk.within in omega (arith, above)
+
+  some : 0 < left
+  some = omega (arith, above)
+
+  abbrev pub p : Lit
+  p = flip e.lit
+
+  pub analysis-skips : is_marked ms e.lit.var ≡ false → AnalysisKeeps ks es base number ms links (left - 1)
+  analysis-skips m = record {
+    walk = walk-skips ks es ms number [] links left e k.walk some g o m;
+    here = ap (is_falsified (take base es)) (skips-clause ks es ms number [] links left e k.walk some g o m) ∙ k.here;
+  }
+
+  open_below : value_in (take base es) e.lit ≡ None
+  open_below = ap (option_map (λ n. same_sign n e.lit.neg)) (sign_at-take_none es base (left - 1) e.lit.var (omega (arith, above)) o)
+
+  pub analysis-resolves : (n : ℕ) (ns : List Entry) (c : List Lit) → is_marked ms e.lit.var ≡ true → Forces ks (take (left - 1) es) e.lit n → named ks n ≡ Some c → AreFalse es ns
+      → Marks ms ns (Some e.lit) c → IsClosed (take base es) ks → AnalysisKeeps ks es base number ns (links ++ record { pivot = p; clause = n } ∷ []) (left - 1)
+  analysis-resolves n ns c m f q a u r = record {
+    walk = walk-resolves ks es ms number [] links left e k.walk some g o n ns c m f q a u;
+    here = ap (is_falsified (take base es)) (resolves-clause ks es ms number [] links left e k.walk some g o n ns c m f q a u)
+    ∙ false_from_ne_true (is_falsified (take base es) (resolvent k.walk.clause p c)) (λ t.
+    let y : is_false_but (take base es) e.lit c ≡ true
+    = all-from (λ x. same_lit x e.lit || is_false (value_in (take base es) x)) c
+    (λ x h. elim (cases_Bool (same_lit x e.lit)) [
+      | inl s ↦ or_left (same_lit x e.lit) (is_false (value_in (take base es) x)) s
+      | inr s ↦
+          let z : has (resolvent k.walk.clause p c) x ≡ true
+          = has-resolvent k.walk.clause p c x ∙ or_right (has k.walk.clause x && not (same_lit x p)) (has c x && not (same_lit x (flip p)))
+          (and_from (has c x) (not (same_lit x (flip p))) h (ap not (ap (same_lit x) (flip-flip e.lit) ∙ s))) in
+          or_right (same_lit x e.lit) (is_false (value_in (take base es) x)) (all-has (λ w. is_false (value_in (take base es) w)) (resolvent k.walk.clause p c) x t z)
+    ]) in
+    let v : value_in (take base es) e.lit ≡ Some true = named-all (IsQuiet (take base es)) ks n c r q e.lit y in
+    let w : None ≡ Some true = sym open_below ∙ v in
+    cc);
+  }
+
+  -- at the decision of the level no other literal of the level is left
+  pub last-decision : ((i : ℕ) (d : Entry) → base < i → i < length es → IsSome (get_or es i d).reason) → e.reason ≡ None → is_last es base left p ms ≡ true
+  last-decision f n =
+      last-to es base left p ms (λ x m h.
+      let c : has k.walk.clause x ≡ true = k.walk.same x ∙ and_from (is_false (value_in (take left es) x)) (is_marked ms x.var) h m in
+      elim (cases_lt base (left - 1)) [
+        | inl q ↦
+            let s : IsSome (get_or es (left - 1) e).reason = f (left - 1) e q in_range in
+            let r : IsSome e.reason = ap (λ z. is_some z.reason) g ∙ s in
+            absurd (none-some e.reason r n)
+        | inr q ↦
+            let b : left - 1 ≡ base = omega (arith, above) in
+            let w : (same_lit x p || is_false (value_in (take (left - 1) es) x)) ≡ true = false-step x h in
+            ap (λ z. same_lit x p || is_false (value_in (take z es) x)) (sym b) ∙ w
+      ])
+    where
+      none-some : (r : Option ℕ) → IsSome r → r ≡ None → ⊥
+      none-some None a b = cc
+      none-some (Some x) a b = cc
+
+      false-step : (x : Lit) → is_false (value_in (take left es) x) ≡ true → (same_lit x p || is_false (value_in (take (left - 1) es) x)) ≡ true
+      false-step x h =
+          let n : left - 1 + 1 ≡ left = omega (arith, above) in
+          false-less es (left - 1) e x in_range g o (ap (λ z. is_false (value_in (take z es) x)) n ∙ h)
+
+  -- where the pivot is the last literal of the level
+  module _ (m : is_marked ms e.lit.var ≡ true) (l : is_last es base left p ms ≡ true) where
+    but : is_false_but (take base es) p k.walk.clause ≡ true
+    but = all-from (λ x. same_lit x p || is_false (value_in (take base es) x)) k.walk.clause
+        (λ x h. let b = left-false ks es number ms links left k.walk x h in last-from es base left p ms x k.walk.marks l b.1 b.0)
+
+    pub asserting-unit : IsUnit (take base es) k.walk.clause p
+    asserting-unit =
+        let n : sign_at (take base es) e.lit.var ≡ None = sign_at-take_none es base (left - 1) e.lit.var (omega (arith, above)) o in
+        (ap (option_map (λ b. same_sign b (not e.lit.neg))) n, pivot-has ks es ms number [] links left e k.walk some g o m, but)
+
+    pub asserting-same : SameLits k.walk.clause (p ∷ lower_lits es base ms)
+    asserting-same x =
+        iff_eq (has k.walk.clause x) (same_lit p x || has (lower_lits es base ms) x)
+        (λ h.
+        let b = left-false ks es number ms links left k.walk x h in
+        elim (or_cases (same_lit x p) (is_false (value_in (take base es) x)) (last-from es base left p ms x k.walk.marks l b.1 b.0)) [
+          | inl s ↦ or_left (same_lit p x) (has (lower_lits es base ms) x) (ap (same_lit p) (same_lit-true x p s) ∙ lit-self p)
+          | inr s ↦ or_right (same_lit p x) (has (lower_lits es base ms) x) (lower-to es base ms x k.walk.marks s b.1)
+        ])
+        (λ h. elim (or_cases (same_lit p x) (has (lower_lits es base ms) x) h) [
+          | inl s ↦ ap (has k.walk.clause) (sym (same_lit-true p x s)) ∙ pivot-has ks es ms number [] links left e k.walk some g o m
+          | inr s ↦
+              let b = lower-from es base ms x s in
+              k.walk.same x ∙ and_from (is_false (value_in (take left es) x)) (is_marked ms x.var) (false-later es base left x (omega (arith, above)) b.0) b.1
+        ])
+
+    pub asserting-false : is_falsified es k.walk.clause ≡ true
+    asserting-false = all-from (λ x. is_false (value_in es x)) k.walk.clause (λ x h. false-whole es left x (left-false ks es number ms links left k.walk x h).0)
+
+    pub lits-false : is_falsified es (p ∷ lower_lits es base ms) ≡ true
+    lits-false = sym (all-same (λ x. is_false (value_in es x)) k.walk.clause (p ∷ lower_lits es base ms) asserting-same) ∙ asserting-false
+
+    pub lits-unit : IsUnit (take base es) (p ∷ lower_lits es base ms) p
+    lits-unit = unit-same (take base es) k.walk.clause (p ∷ lower_lits es base ms) p asserting-same asserting-unit
+
+    pub lits-accepted : IsClosed (take base es) ks → Accepts ks (record { start = number; links = links }) (p ∷ lower_lits es base ms)
+    lits-accepted q =
+        let d : Derives ks (record { start = number; links = links }) (p ∷ lower_lits es base ms)
+        = subst (λ z. SameResult z (Ok (p ∷ lower_lits es base ms))) (sym k.walk.derives) asserting-same in
+        accepted-from ks es base (record { start = number; links = links }) (p ∷ lower_lits es base ms) d lits-false q (p, lits-unit)

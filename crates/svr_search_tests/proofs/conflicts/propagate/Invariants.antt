@@ -1,0 +1,4 @@
+use Rattle.svr_search_tests.proofs.conflicts.propagate.Given as goal
+
+abbrev pub ghosts-count_visits : goal.ghosts-count_visits
+ghosts-count_visits a = record { name = a.blank.name; parts = a.blank.parts }
