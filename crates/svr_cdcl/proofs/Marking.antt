@@ -162,20 +162,20 @@ module _ (ks : List (List Lit)) (es : List Entry) (base number : ℕ) (ms : List
   analysis-resolves n ns c m f q a u r = record {
     walk = walk-resolves ks es ms number [] links left e k.walk some g o n ns c m f q a u;
     here = ap (is_falsified (take base es)) (resolves-clause ks es ms number [] links left e k.walk some g o n ns c m f q a u)
-    ∙ false_from_ne_true (is_falsified (take base es) (resolvent k.walk.clause p c)) (λ t.
-    let y : is_false_but (take base es) e.lit c ≡ true
-    = all-from (λ x. same_lit x e.lit || is_false (value_in (take base es) x)) c
-    (λ x h. elim (cases_Bool (same_lit x e.lit)) [
-      | inl s ↦ or_left (same_lit x e.lit) (is_false (value_in (take base es) x)) s
-      | inr s ↦
-          let z : has (resolvent k.walk.clause p c) x ≡ true
-          = has-resolvent k.walk.clause p c x ∙ or_right (has k.walk.clause x && not (same_lit x p)) (has c x && not (same_lit x (flip p)))
-          (and_from (has c x) (not (same_lit x (flip p))) h (ap not (ap (same_lit x) (flip-flip e.lit) ∙ s))) in
-          or_right (same_lit x e.lit) (is_false (value_in (take base es) x)) (all-has (λ w. is_false (value_in (take base es) w)) (resolvent k.walk.clause p c) x t z)
-    ]) in
-    let v : value_in (take base es) e.lit ≡ Some true = named-all (IsQuiet (take base es)) ks n c r q e.lit y in
-    let w : None ≡ Some true = sym open_below ∙ v in
-    cc);
+        ∙ false_from_ne_true (is_falsified (take base es) (resolvent k.walk.clause p c)) (λ t.
+        let y : is_false_but (take base es) e.lit c ≡ true
+        = all-from (λ x. same_lit x e.lit || is_false (value_in (take base es) x)) c
+        (λ x h. elim (cases_Bool (same_lit x e.lit)) [
+          | inl s ↦ or_left (same_lit x e.lit) (is_false (value_in (take base es) x)) s
+          | inr s ↦
+              let z : has (resolvent k.walk.clause p c) x ≡ true
+              = has-resolvent k.walk.clause p c x ∙ or_right (has k.walk.clause x && not (same_lit x p)) (has c x && not (same_lit x (flip p)))
+              (and_from (has c x) (not (same_lit x (flip p))) h (ap not (ap (same_lit x) (flip-flip e.lit) ∙ s))) in
+              or_right (same_lit x e.lit) (is_false (value_in (take base es) x)) (all-has (λ w. is_false (value_in (take base es) w)) (resolvent k.walk.clause p c) x t z)
+        ]) in
+        let v : value_in (take base es) e.lit ≡ Some true = named-all (IsQuiet (take base es)) ks n c r q e.lit y in
+        let w : None ≡ Some true = sym open_below ∙ v in
+        cc);
   }
 
   -- at the decision of the level no other literal of the level is left

@@ -56,7 +56,13 @@ fn mark(trail: &Trail, marks: &mut Trail, base: usize, lit: Lit, keep: Option<Li
 }
 
 /// Marks the literals of a list but the kept one. Tells how many of them are new and of the present level.
-fn mark_lits(trail: &Trail, marks: &mut Trail, base: usize, lits: &[Lit], keep: Option<Lit>) -> usize
+fn mark_lits(
+    trail: &Trail,
+    marks: &mut Trail,
+    base: usize,
+    lits: &[Lit],
+    keep: Option<Lit>,
+) -> usize
     requires within { marks.old.vars ≡ trail.now.vars }
     requires falsified { is_false_besides trail.now.entries keep lits.now ≡ true }
     requires lits { AreFalse trail.now.entries marks.old.entries }
@@ -74,7 +80,13 @@ fn mark_lits(trail: &Trail, marks: &mut Trail, base: usize, lits: &[Lit], keep: 
 }
 
 /// Marks literals by their numbers but the kept one. Tells how many of them are new and of the present level.
-fn mark_codes(trail: &Trail, marks: &mut Trail, base: usize, codes: &[u64], keep: Option<Lit>) -> usize
+fn mark_codes(
+    trail: &Trail,
+    marks: &mut Trail,
+    base: usize,
+    codes: &[u64],
+    keep: Option<Lit>,
+) -> usize
     requires within { marks.old.vars ≡ trail.now.vars }
     requires falsified { is_false_besides trail.now.entries keep (map lit_of codes.now) ≡ true }
     requires lits { AreFalse trail.now.entries marks.old.entries }
