@@ -1,0 +1,61 @@
+// Closed expressions under the tests of a place.
+
+ghost use Rattle.std.specs.Prelude.{◌≡◌, IfOk, option_map};
+ghost use Rattle.svr_typed.specs.ExprTerm.{expr_term};
+ghost use Rattle.svr_frame.specs.Occurrences as spec;
+ghost use Rattle.svr_expand.specs.Expanded.{guards_of, negated, joined};
+
+use crate::around::Around;
+use crate::close::closed;
+use std::alloc::Global;
+use svr_eval::Env;
+use svr_operator::{BinOp, UnOp};
+use svr_typed::{NoMemory, TExpr, TNode};
+
+/// `!e`
+fn not(alloc: Global, e: TExpr) -> Result<TExpr, NoMemory>
+    ensures { IfOk result (λ r. expr_term r ≡ negated (expr_term e)) }
+{
+    Ok(TExpr::new(1, false, TNode::unary(alloc, UnOp::LogicalNot, e)?))
+}
+
+/// An expression of one bit with two operands.
+pub(crate) fn binary(alloc: Global, op: BinOp, left: TExpr, right: TExpr) -> Result<TExpr, NoMemory>
+    ensures { IfOk result (λ r. expr_term r ≡ joined op (expr_term left) (expr_term right)) }
+{
+    Ok(TExpr::new(1, false, TNode::binary(alloc, op, left, right)?))
+}
+
+fn guard(alloc: Global, test: &TExpr, wanted: bool, env: &Env) -> Result<TExpr, NoMemory>
+    ensures { IfOk result (λ r. expr_term r ≡ spec.guard_expr (record { test = expr_term test.now; wanted = wanted; env = env.now })) }
+{
+    let test = closed(alloc, test, env)?;
+    if wanted { Ok(test) } else { not(alloc, test) }
+}
+
+/// `g1 && .. && gk`, where there are tests.
+fn condition(alloc: Global, at: &Around<'_>) -> Result<Option<TExpr>, NoMemory>
+    ensures { IfOk result (λ c. option_map expr_term c ≡ spec.condition (guards_of at.now)) }
+{
+    match at {
+        Around::Outside => Ok(None),
+        Around::Within(_, others) => condition(alloc, others),
+        Around::Under(test, wanted, env, others) => {
+            let own = guard(alloc, test, *wanted, env)?;
+            match condition(alloc, others)? {
+                None => Ok(Some(own)),
+                Some(outer) => Ok(Some(binary(alloc, BinOp::LogicalAnd, outer, own)?)),
+            }
+        }
+    }
+}
+
+/// `g1 && .. && gk -> e`, or `e` where there is no test.
+pub(crate) fn guarded(alloc: Global, at: &Around<'_>, e: TExpr) -> Result<TExpr, NoMemory>
+    ensures { IfOk result (λ r. expr_term r ≡ spec.guarded (spec.condition (guards_of at.now)) (expr_term e)) }
+{
+    match condition(alloc, at)? {
+        None => Ok(e),
+        Some(test) => binary(alloc, BinOp::Implies, test, e),
+    }
+}

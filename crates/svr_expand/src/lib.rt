@@ -1,0 +1,23 @@
+//! The items of a phase of a call as closed expressions (IEEE 1800-2017, 18.5 and 18.5.14).
+#![tactic(auto)]
+
+mod around;
+mod close;
+mod domain;
+mod examples;
+mod finding;
+mod gather;
+mod guards;
+mod mention;
+mod pairs;
+mod phase;
+mod slots;
+mod sort;
+mod state;
+mod targets;
+mod walk;
+
+pub use examples::orders_are_as_worked_out;
+pub use phase::expand;
+pub use slots::unknowns;
+pub use sort::Expansion;
