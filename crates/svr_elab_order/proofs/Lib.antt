@@ -1,0 +1,6 @@
+pub mod Ways
+pub mod Settling
+pub mod Sources
+pub mod Loops
+pub mod Firsts
+pub mod Bounds

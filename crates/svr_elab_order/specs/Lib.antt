@@ -1,0 +1,4 @@
+pub mod Order
+pub mod Graph
+pub mod Cycles
+pub mod Examples

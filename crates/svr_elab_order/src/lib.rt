@@ -1,0 +1,18 @@
+//! What `solve` items order, and the first of them that orders a property before itself (IEEE 1800-2017, 18.5.10).
+//!
+//! Items and properties are nodes of one graph: an item comes behind its first names, and a property behind each item that has it among its later ones. No item orders a property before itself exactly where every way back through that graph has an end.
+#![tactic(auto)]
+
+mod flags;
+mod graph;
+mod law;
+mod order;
+mod refuse;
+mod search;
+mod settle;
+
+pub use law::{
+    chains_are_as_worked_out, comes_by_chains, keeps_the_first, loops_are_as_worked_out,
+};
+pub use order::Order;
+pub use refuse::cycle_fault;
