@@ -1,0 +1,6 @@
+pub mod Types
+pub mod Mentions
+pub mod Constraints
+pub mod Statements
+pub mod Lawful
+pub mod Examples
