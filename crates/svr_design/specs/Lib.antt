@@ -4,3 +4,4 @@ pub mod Constraints
 pub mod Statements
 pub mod Lawful
 pub mod Examples
+pub mod Forms
