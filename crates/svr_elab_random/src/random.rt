@@ -1,0 +1,121 @@
+// Which properties can be random (IEEE 1800-2017, 18.4 and 18.11.1).
+
+ghost use Rattle.std.specs.Prelude.{◌≡◌, IfOk, map, reverse};
+ghost use Rattle.svr_elab_names.specs.Tables.{prop_of, class_of};
+ghost use Rattle.svr_elab_random.specs.Random as spec;
+
+use indexmap::{IndexMap, IndexSet};
+use sqlite_items::Items;
+use std::alloc::Global as Heap;
+use svr_elab_names::{ClassNames, PropEntry, Property};
+use svr_typed::NoMemory;
+
+/// A property by the class that declares it and its number in flat order, which it has in each derived class too.
+#[derive(Clone, Copy, Debug, PartialEq, Eq, Hash)]
+pub struct Home {
+    pub class: u32,
+    pub number: u32,
+}
+
+impl Home {
+    /// The home of a property.
+    pub fn of(property: Property) -> Home
+        ensures { result ≡ spec.home_of property }
+    {
+        Home {
+            class: property.home,
+            number: property.number,
+        }
+    }
+}
+
+fn is_listed(listed: &IndexSet<Home>, property: Property) -> bool
+    ensures { result ≡ spec.is_listed listed.now.keys property }
+{
+    listed.contains(&Home::of(property))
+}
+
+fn with_list(listed: &IndexSet<Home>, entry: PropEntry) -> PropEntry
+    ensures property { result.property ≡ spec.listed listed.now.keys entry.property }
+    ensures first { result.first ≡ entry.first }
+{
+    let property = entry.property;
+    PropEntry {
+        property: Property {
+            number: property.number,
+            home: property.home,
+            kind: property.kind,
+            rand: property.rand,
+            random: property.random || is_listed(listed, property),
+            dims: property.dims,
+        },
+        first: entry.first,
+    }
+}
+
+#[tactic(auto, using(crate::proofs::Marked::marked_more, crate::proofs::Marked::as_many, crate::proofs::Marked::marked_all))]
+fn mark(props: &mut IndexMap<&[u8], PropEntry>, listed: &IndexSet<Home>)
+    ensures { map prop_of props.new.entries ≡ map (spec.with_list listed.now.keys) (map prop_of props.old.entries) }
+{
+    for i in 0..props.len() {
+        let entry = with_list(listed, props[i]);
+        props[i] = entry;
+    }
+}
+
+fn with_lists<'a>(class: ClassNames<'a>, listed: &IndexSet<Home>) -> ClassNames<'a>
+    ensures { class_of result ≡ spec.with_lists listed.now.keys (class_of class.entry) }
+{
+    let mut props = class.props;
+    mark(&mut props, listed);
+    ClassNames {
+        name: class.name,
+        base: class.base,
+        props,
+        inherited: class.inherited,
+        blocks: class.blocks,
+    }
+}
+
+/// The classes from the last one back, where listed properties can be random.
+fn marked_backwards<'a>(
+    alloc: Heap,
+    classes: Items<ClassNames<'a>>,
+    listed: &IndexSet<Home>,
+) -> Result<Items<ClassNames<'a>>, NoMemory>
+    ensures { IfOk result (λ cs. map class_of cs ≡ reverse (map (spec.with_lists listed.now.keys) (map class_of classes.entry))) }
+{
+    let mut rest = classes;
+    let mut marked = Items::new(alloc);
+    while let Some(class) = rest.pop() {
+        marked.push(with_lists(class, listed))?;
+    }
+    Ok(marked)
+}
+
+fn backwards<'a>(
+    alloc: Heap,
+    classes: Items<ClassNames<'a>>,
+) -> Result<Items<ClassNames<'a>>, NoMemory>
+    ensures { IfOk result (λ cs. cs ≡ reverse classes.entry) }
+{
+    let mut rest = classes;
+    let mut turned = Items::new(alloc);
+    while let Some(class) = rest.pop() {
+        turned.push(class)?;
+    }
+    Ok(turned)
+}
+
+/// The classes, where the properties of these calls' lists can be random too.
+#[tactic(auto, using(crate::proofs::Listed::turned_back))]
+pub fn with_random<'a>(
+    alloc: Heap,
+    classes: Items<ClassNames<'a>>,
+    listed: &IndexSet<Home>,
+) -> Result<Items<ClassNames<'a>>, NoMemory>
+    ensures { IfOk result (λ cs. map class_of cs ≡ spec.classes_with listed.now.keys (map class_of classes.entry)) }
+{
+    let marked = marked_backwards(alloc, classes, listed)?;
+    backwards(alloc, marked)
+}

@@ -1,0 +1,3 @@
+pub mod Expressions
+pub mod Scopes
+pub mod Trees
