@@ -1,0 +1,5 @@
+pub mod Clear
+pub mod Ready
+pub mod ReadFit
+pub mod Named
+pub mod HasTree
