@@ -61,7 +61,7 @@ def words(path, lines):
 
 
 def tests(path, lines):
-    in_tests = "tests" in path.stem or "tests" in path.parent.name
+    in_tests = "tests" in path.stem or any("tests" in part for part in path.parent.parts)
     if path.suffix == ".rt" and not in_tests and any(line.strip() == "#[test]" for line in lines):
         yield "has tests outside tests.rt"
 
