@@ -1,0 +1,5 @@
+pub mod Fitting
+pub mod Refutes
+pub mod Fresh
+pub mod Preferred
+pub mod Allowed

@@ -1,0 +1,6 @@
+pub mod Cyclic
+pub mod Sizes
+pub mod Spent
+pub mod Proof
+pub mod Ends
+pub mod Examples
