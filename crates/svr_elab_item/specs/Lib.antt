@@ -1,0 +1,4 @@
+pub mod Items
+pub mod Seen
+pub mod Fits
+pub mod Examples
