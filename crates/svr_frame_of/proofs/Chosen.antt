@@ -1,0 +1,29 @@
+-- Whether a call chooses a size, by the leaves of a frame that marks it.
+use Rattle.std.proofs.Common.{◌≡◌, ◌<◌, ℕ, Bool, true, false, ◌&&◌, refl, sym, ◌∙◌, ap, List, []}
+use Rattle.std.specs.List.{list_any}
+use Rattle.svr_typed.specs.ItemTerm.{ItemTerms}
+use Rattle.svr_frame.specs.Frame.{FrameTerm, is_random, is_dynamic, state_sizes}
+use Rattle.svr_frame.specs.Reads.{mentions_size}
+use Rattle.svr_frame.specs.Phases.{shape_at, active_at}
+use Rattle.svr_frame.specs.Making.{can_free, is_free}
+use Rattle.svr_frame_of.specs.Callable.{with_free}
+use Rattle.svr_frame_of.specs.Freeing.{mark, all_leaves}
+use Rattle.svr_frame_of.proofs.Freed.{freed}
+use Rattle.svr_frame_of.proofs.Steps.{marked_at}
+
+and_met : (a b c : Bool) → (a && b) ≡ true → (a && b && c) ≡ c
+and_met true true c h = refl
+and_met true false c h = cc
+and_met false b c h = cc
+
+module _ (f : FrameTerm) (p : ℕ) where
+  abbrev by_item : Bool
+  by_item = list_any (λ o. can_free f o && mentions_size (shape_at f (state_sizes f)) p o) (active_at f (state_sizes f))
+
+  pub chosen_by_leaves : (n : ℕ) (marks : List Bool) (its : ItemTerms) (r : Bool) → p < n → marks ≡ mark n p → its ≡ f.items → (is_random f p && is_dynamic f p) ≡ true → r ≡ (all_leaves (with_free f marks) its).sized → r ≡ is_free f p
+  chosen_by_leaves n marks its r less h t there k =
+      k ∙ (λ i. (all_leaves (with_free f (h i)) (t i)).sized) ∙ sym (freed (with_free f (mark n p)) p (λ q. marked_at f p n q less)) ∙ sym (and_met (is_random f p) (is_dynamic f p) by_item there)
+
+-- frames that differ in their free sizes alone choose the same ones
+pub same_choice : (f g : FrameTerm) (p : ℕ) → with_free f [] ≡ with_free g [] → is_free f p ≡ is_free g p
+same_choice f g p h = ap (λ (x : FrameTerm). is_free x p) h
