@@ -1,0 +1,5 @@
+mod Added
+mod Members
+mod Widths
+mod Forms
+mod Declared

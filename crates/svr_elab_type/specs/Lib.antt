@@ -1,0 +1,4 @@
+pub mod Types
+pub mod Fits
+pub mod Seen
+pub mod Examples
