@@ -53,7 +53,7 @@ module _ (ps : List Prop) (R : Property → Type 0) (each : (p : Property) → I
 abbrev reads_random : Reads → Bool
 reads_random r = r.random
 
--- and sizes of arrays that can be
+-- anything cyclic
 abbrev reads_cyclic : Reads → Bool
 reads_cyclic r = r.cyclic
 
