@@ -1,0 +1,5 @@
+pub mod Lefts
+pub mod MarkLemmas
+pub mod Opposites
+pub mod Tables
+pub mod Sound
