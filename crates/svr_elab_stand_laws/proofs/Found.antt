@@ -1,5 +1,5 @@
 -- What is found at a path in a constraint: a loop around it, a property of the class, or a size or a reduction of one of its arrays, in no object, or a variable.
-use Rattle.std.proofs.Common.{◌≡◌, ◌<◌, ℕ, ◌+◌, Bool, true, false, not, ◌||◌, if◌then◌else◌, List, [], ◌∷◌, length, Option, None, Some, option_map, refl, sym, subst, arith}
+use Rattle.std.proofs.Common.{◌≡◌, ◌<◌, ℕ, ◌+◌, Bool, true, false, not, ◌||◌, if◌then◌else◌, List, [], ◌∷◌, length, Option, None, Some, option_map, refl, sym, subst, ◌∙◌, arith}
 use Rattle.std.specs.Prelude.{⊤}
 use Rattle.std.specs.List.{list_any}
 use Rattle.svr_operator.specs.declared.Fold.{Fold}
@@ -37,9 +37,13 @@ or_is : {A : Type 0} (P : A → Type 0) (x y : Option A) → OptionIs P x → Op
 or_is P None y h k = k
 or_is P (Some x) y h k = h
 
-if_is : {A : Type 0} (P : A → Type 0) (b : Bool) (x : Option A) → OptionIs P x → OptionIs P (only_if b x)
-if_is P true x h = h
-if_is P false x h = tt
+if_when : {A : Type 0} (P : A → Type 0) (b : Bool) (x : Option A) → (b ≡ true → OptionIs P x) → OptionIs P (only_if b x)
+if_when P true x h = h refl
+if_when P false x h = tt
+
+or_second : (a b : Bool) → a ≡ false → (a || b) ≡ true → b ≡ true
+or_second true b h k = absurd (true_false h)
+or_second false b h k = k
 
 map_is : {A B : Type 0} (P : B → Type 0) (f : A → B) (x : Option A) → OptionIs (λ x. P (f x)) x → OptionIs P (option_map f x)
 map_is P f None h = tt
@@ -102,7 +106,7 @@ module _ (Q : Property → Type 0) (R : ℕ → Option Vector → Type 0) (depth
     pub later : n.later ≡ []
     pub loops : Each (λ (l : Loop). ItemIs l.item) n.loops
     pub around : length n.loops ≡ depth
-    pub vars : VarsAre 0 n.vars
+    pub vars : is_in_line n.region ≡ true → VarsAre 0 n.vars
 
   fold_is : (p : Property) (o : Option ℕ) (array name : ℕ) (f : Option Fold) → Q p → o ≡ None → is_array p.dims ≡ true → MeaningIs (fold_meaning p o array name f)
   fold_is p o array name None h e a = tt
@@ -181,8 +185,11 @@ module _ (Q : Property → Type 0) (R : ℕ → Option Vector → Type 0) (depth
         or_is MeaningIs (option_map plain_property (property_named n.props q)) (only_if (list_any (is_same q) n.later) (Some (plain_property unknown_property)))
         (plain_is (property_named n.props q) (property_is n.props q m.props)) (none_later q)
 
-    as_variable_is : (q : List ℕ) → OptionIs MeaningIs (as_variable n q)
-    as_variable_is q = variable_is (find_from (λ v. v.name) q 0 n.vars) (var_found q 0 n.vars m.vars)
+    as_variable_is : is_in_line n.region ≡ true → (q : List ℕ) → OptionIs MeaningIs (as_variable n q)
+    as_variable_is e q = variable_is (find_from (λ v. v.name) q 0 n.vars) (var_found q 0 n.vars (m.vars e))
+
+    not_there : is_statement n.region ≡ true → ⊥
+    not_there e = true_false (sym e ∙ m.region)
 
     loop_below : (q : List ℕ) → OptionIs (λ (f : ℕ × Loop). f.0 < depth) (find_from (λ l. l.name) q 0 n.loops)
     loop_below q =
@@ -200,14 +207,14 @@ module _ (Q : Property → Type 0) (R : ℕ → Option Vector → Type 0) (depth
     first_is scope.This q = as_property_is q
     first_is scope.Local q =
         or_is MeaningIs (only_if (is_statement n.region || is_in_line n.region) (as_variable n q)) (as_member n q)
-        (if_is MeaningIs (is_statement n.region || is_in_line n.region) (as_variable n q) (as_variable_is q)) (as_member_is q)
+        (if_when MeaningIs (is_statement n.region || is_in_line n.region) (as_variable n q) (λ e. as_variable_is (or_second (is_statement n.region) (is_in_line n.region) m.region e) q)) (as_member_is q)
     first_is scope.Plain q =
         let after : Option Meaning = only_if (is_in_line n.region) (as_variable n q) in
         let before : Option Meaning = only_if (is_statement n.region) (as_variable n q) in
         or_is MeaningIs (loop_named n.loops q) (or_else (as_property n q) (or_else before (or_else (as_member n q) after))) (as_loop_is q)
         (or_is MeaningIs (as_property n q) (or_else before (or_else (as_member n q) after)) (as_property_is q)
-        (or_is MeaningIs before (or_else (as_member n q) after) (if_is MeaningIs (is_statement n.region) (as_variable n q) (as_variable_is q))
-        (or_is MeaningIs (as_member n q) after (as_member_is q) (if_is MeaningIs (is_in_line n.region) (as_variable n q) (as_variable_is q)))))
+        (or_is MeaningIs before (or_else (as_member n q) after) (if_when MeaningIs (is_statement n.region) (as_variable n q) (λ e. absurd (not_there e)))
+        (or_is MeaningIs (as_member n q) after (as_member_is q) (if_when MeaningIs (is_in_line n.region) (as_variable n q) (λ e. as_variable_is e q)))))
 
     object_is : (first o c : ℕ) (rest : List ℕ) → MeaningIs (object_path n first o c rest).meaning
     object_is first o c [] = one_of_two MeaningIs (is_statement n.region) (ObjectOf o c) (Wrong first) tt tt

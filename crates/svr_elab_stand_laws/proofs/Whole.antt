@@ -649,7 +649,7 @@ module _ (ps : List Prop) (vs : List TVar) where
       later = m.later;
       loops = each_of (λ (l : Loop). ItemDesigned ps l.item) (λ (l : Loop). ItemFits l.item) (λ (l : Loop). ItemIs Known Variable depth l.item) n.loops (λ l a b. item_is l.item a b) m.loops k.loops;
       around = m.around;
-      vars = vars_are 0 n.vars m.vars;
+      vars = λ e. vars_are 0 n.vars (m.vars e);
     };
     fits = k;
     reads = record {

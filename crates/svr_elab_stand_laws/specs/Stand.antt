@@ -14,7 +14,7 @@ use Rattle.svr_elab_names.specs.declared.Vector.{Vector}
 use Rattle.svr_elab_names.specs.declared.Property.{Property}
 use Rattle.svr_elab_names.specs.declared.VarStand.{VarStand}
 use Rattle.svr_elab_names.specs.declared.VarStand.TheVariants as stand
-use Rattle.svr_elab_names.specs.Names.{Space, PropName, VarName, Loop, is_statement, is_array}
+use Rattle.svr_elab_names.specs.Names.{Space, PropName, VarName, Loop, is_statement, is_in_line, is_array}
 use Rattle.svr_elab_part.specs.Fits.{Each, NamesFit, LiteralsFit}
 use Rattle.svr_elab_part.specs.Shapes.{is_randc, inner_of}
 use Rattle.svr_elab_part.specs.Elab.{value}
@@ -54,14 +54,14 @@ abbrev pub VariablesDesigned : List TVar → ℕ → List VarName → Type 0
 VariablesDesigned vs v [] = ⊤
 VariablesDesigned vs v (x ∷ xs) = VariableDesigned vs v x.stands × VariablesDesigned vs (v + 1) xs
 
--- a place in a constraint of a design with these properties and variables, inside of so many loops
+-- a place in a constraint of a design with these properties, inside of so many loops; script variables can be named in a set behind a call alone
 pub record InDesign (ps : List Prop) (vs : List TVar) (depth : ℕ) (n : Space) : Type 0 where
   pub region : is_statement n.region ≡ false
   pub props : Each (λ (p : PropName). IsDesigned ps p.property) n.props
   pub later : n.later ≡ []
   pub loops : Each (λ (l : Loop). ItemDesigned ps l.item) n.loops
   pub around : length n.loops ≡ depth
-  pub vars : VariablesDesigned vs 0 n.vars
+  pub vars : is_in_line n.region ≡ true → VariablesDesigned vs 0 n.vars
 
 abbrev pub AcceptedStands : Type 0
 AcceptedStands =

@@ -1,0 +1,3 @@
+mod Assigned
+mod Named
+mod Forms
