@@ -1,0 +1,10 @@
+pub mod TreeLemmas
+pub mod TermLemmas
+pub mod PartLemmas
+pub mod SetLemmas
+pub mod FitLemmas
+pub mod GivenLemmas
+pub mod MemberLemmas
+pub mod NodeLemmas
+pub mod ValueLemmas
+pub mod EncodeLemmas
