@@ -1,0 +1,54 @@
+-- What the pass needs of each form, by its parts.
+use Rattle.std.proofs.Common.{◌≡◌, ℕ, Bool, true, false, if◌then◌else◌, List, [], Option, sym, ap, ◌∙◌}
+use Rattle.std.specs.List.{list_any, slice_get}
+use Rattle.svr_tree.specs.ItemTree.{ItemTrees}
+use Rattle.svr_tree.specs.DeclTree as decl
+use Rattle.svr_tree.specs.DeclTree.{BlockTree, ClassTree}
+use Rattle.svr_elab_fault.specs.declared.Fault.{Fault}
+use Rattle.svr_elab_fault.specs.Refusals.{first_one}
+use Rattle.svr_elab_names.specs.declared.Region.TheVariants as region
+use Rattle.svr_elab_names.specs.Names.{Space, is_same}
+use Rattle.svr_elab_order.specs.declared.Order.{Order}
+use Rattle.svr_elab_item.specs.declared.Around.{Around}
+use Rattle.svr_elab_item.specs.Items.{ItemsElab, items, no_items, outside}
+use Rattle.svr_elab_block.specs.Blocks as spec
+use Rattle.svr_elab_block.specs.Blocks.{BodyElab, BodiesElab}
+
+abbrev chosen : Space → BodyElab (Option Fault) → BlockTree → ItemsElab (Option Fault) → Bool → BodyElab (Option Fault)
+chosen n b k e there = if there then spec.with_faults first_one b e.faults else spec.with_block first_one b (n.text k.name) (spec.orders n k.name b.orders k.items) e
+
+abbrev known : Space → Around → BlockTree → ItemsElab (Option Fault)
+known n a k = items first_one n a (no_items first_one) k.items
+
+among : (n : Space) (b : BodyElab (Option Fault)) (k : BlockTree) (q : List ℕ) (t u : Bool)
+    → q ≡ n.text k.name → t ≡ list_any (is_same q) b.own → t ≡ u → u ≡ list_any (is_same (n.text k.name)) b.own
+among n b k q t u p h y = sym y ∙ h ∙ ap (λ (q : List ℕ). list_any (is_same q) b.own) p
+
+-- a block whose name an earlier declaration has
+pub again_is : (n : Space) (a : Around) (b r : BodyElab (Option Fault)) (k : BlockTree) (e : ItemsElab (Option Fault)) (is : ItemTrees) (q : List ℕ) (t : Bool)
+    → q ≡ n.text k.name → t ≡ list_any (is_same q) b.own → t ≡ true → e ≡ items first_one n a (no_items first_one) is → is ≡ k.items → a ≡ outside
+    → r ≡ spec.with_faults first_one b e.faults → r ≡ spec.body_item first_one n b (decl.block k)
+again_is n a b r k e is q t p h y i l j w =
+    w ∙ ap (λ (e : ItemsElab (Option Fault)). chosen n b k e true) (i ∙ ap (λ (is : ItemTrees). items first_one n a (no_items first_one) is) l ∙ ap (λ (a : Around). known n a k) j)
+    ∙ ap (chosen n b k (known n outside k)) (among n b k q t true p h y)
+
+-- another block
+pub stands_is : (n : Space) (a : Around) (b r : BodyElab (Option Fault)) (k : BlockTree) (e : ItemsElab (Option Fault)) (is : ItemTrees) (q : List ℕ) (t : Bool)
+    → q ≡ n.text k.name → t ≡ list_any (is_same q) b.own → t ≡ false → e ≡ items first_one n a (no_items first_one) is → is ≡ k.items → a ≡ outside
+    → r ≡ spec.with_block first_one b (n.text k.name) (spec.orders n k.name b.orders k.items) e → r ≡ spec.body_item first_one n b (decl.block k)
+stands_is n a b r k e is q t p h y i l j w =
+    w ∙ ap (λ (e : ItemsElab (Option Fault)). chosen n b k e false) (i ∙ ap (λ (is : ItemTrees). items first_one n a (no_items first_one) is) l ∙ ap (λ (a : Around). known n a k) j)
+    ∙ ap (chosen n b k (known n outside k)) (among n b k q t false p h y)
+
+pub class_is : (n i : Space) (k : ℕ) (c : ClassTree) (s r : BodiesElab (Option Fault)) (b : BodyElab (Option Fault)) (os : List Order) (xs : List (List Order))
+    → r ≡ spec.and_body first_one s os b → os ≡ spec.without n.text b.named [] (spec.orders_at xs (spec.base_of (slice_get n.classes k))) → xs ≡ s.orders → b ≡ spec.body_items first_one i (spec.no_body first_one) c.items → i ≡ spec.in_class n region.Block k
+    → r ≡ spec.with_class first_one n s k (spec.body first_one n k c)
+class_is n i k c s r b os xs h p x q e =
+    h ∙ ap (λ (os : List Order). spec.and_body first_one s os b) (p ∙ ap (λ (xs : List (List Order)). spec.without n.text b.named [] (spec.orders_at xs (spec.base_of (slice_get n.classes k)))) x)
+    ∙ ap (λ (b : BodyElab (Option Fault)). spec.and_body first_one s (spec.inherited first_one n s k b) b)
+    (q ∙ ap (λ (i : Space). spec.body_items first_one i (spec.no_body first_one) c.items) e)
+
+pub line_is : (n i : Space) (a : Around) (k : ℕ) (r : ItemsElab (Option Fault)) (is : ItemTrees)
+    → r ≡ items first_one i a (no_items first_one) is → a ≡ outside → i ≡ spec.in_class n region.InLine k → r ≡ spec.in_line first_one n k is
+line_is n i a k r is h p e =
+    h ∙ ap (λ (a : Around). items first_one i a (no_items first_one) is) p ∙ ap (λ (i : Space). items first_one i outside (no_items first_one) is) e

@@ -1,0 +1,18 @@
+use Rattle.std.proofs.Common.{ap}
+use Rattle.svr_tree.specs.ItemTree.{item_trees}
+use Rattle.svr_tree.specs.DeclTree.{block_tree}
+use Rattle.svr_elab_names.specs.Tables.{space_of}
+use Rattle.svr_elab_item.specs.Seen.{items_part}
+use Rattle.svr_elab_block.specs.Seen.{body_part}
+use Rattle.svr_elab_block.proofs.Forms.{again_is, stands_is}
+use Rattle.svr_elab_block.proofs.body.and_block.Goals as goal
+
+pub returns-then-is_among : goal.returns-then-is_among
+returns-then-is_among c =
+    again_is (space_of c.args.names.now) c.outside.result (body_part c.args.part) (body_part c.with_fault.result) (block_tree c.args.block.now) (items_part c.in_ok-items.items) (item_trees c.as_slice.result.now) c.name.result.now c.is_among.result
+    c.name.ensures c.is_among.ensures c.if-is_among.true c.in_ok-items.ensures (ap item_trees c.as_slice.ensures) c.outside.ensures c.with_fault.ensures
+
+pub returns-in_ok-with_block : goal.returns-in_ok-with_block
+returns-in_ok-with_block c =
+    stands_is (space_of c.args.names.now) c.outside.result (body_part c.args.part) (body_part c.in_ok-with_block.field-0) (block_tree c.args.block.now) (items_part c.in_ok-items.items) (item_trees c.as_slice.result.now) c.name.result.now c.is_among.result
+    c.name.ensures c.is_among.ensures c.if-is_among.false c.in_ok-items.ensures (ap item_trees c.as_slice.ensures) c.outside.ensures c.in_ok-with_block.ensures

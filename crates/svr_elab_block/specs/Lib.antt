@@ -1,0 +1,5 @@
+pub mod Blocks
+pub mod Seen
+pub mod Fits
+pub mod Gathered
+pub mod Examples

@@ -1,0 +1,20 @@
+-- What the code keeps of blocks, as what is known of them with the first refusal only.
+use Rattle.std.specs.Prelude.{Option, option_map, map}
+use Rattle.svr_typed.specs.ClassTerm.{block_terms, block_term}
+use Rattle.svr_elab_fault.specs.declared.Fault.{Fault}
+use Rattle.svr_elab_names.specs.Tables.{bytes_of}
+use Rattle.svr_elab_block.specs.Blocks.{BodyElab, BodiesElab}
+use Rattle.svr_elab_block.specs.declared.part.BodyPart.{BodyPart}
+use Rattle.svr_elab_block.specs.declared.part.BodiesPart.{BodiesPart}
+
+abbrev pub body_part : BodyPart → BodyElab (Option Fault)
+body_part p = record {
+  own = map bytes_of p.own.keys;
+  named = map bytes_of p.named.keys;
+  blocks = option_map (map block_term) p.blocks;
+  orders = p.orders;
+  faults = p.fault;
+}
+
+abbrev pub bodies_part : BodiesPart → BodiesElab (Option Fault)
+bodies_part p = record { blocks = option_map (map block_terms) p.blocks; orders = p.orders; faults = p.fault }

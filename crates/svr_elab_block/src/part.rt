@@ -1,0 +1,63 @@
+// What is known of blocks.
+
+ghost use Rattle.std.specs.Prelude.{◌≡◌};
+ghost use Rattle.svr_elab_fault.specs.Refusals.{first_one};
+ghost use Rattle.svr_elab_block.specs.Blocks as spec;
+ghost use Rattle.svr_elab_block.specs.Seen.{body_part, bodies_part};
+
+use indexmap::IndexSet;
+use sqlite_items::Items;
+use std::alloc::Global;
+use svr_elab_fault::Fault;
+use svr_elab_order::Order;
+use svr_typed::TBlock;
+
+/// What is known of the blocks of one class so far.
+#[derive(Drop)]
+pub(crate) struct BodyPart<'a> {
+    /// The names of its properties and blocks.
+    pub own: IndexSet<&'a [u8]>,
+    /// The names of its blocks alone.
+    pub named: IndexSet<&'a [u8]>,
+    /// The typed blocks, where each is known.
+    pub blocks: Option<Items<TBlock>>,
+    /// What the `solve` items of its blocks order.
+    pub orders: Items<Order>,
+    pub fault: Option<Fault>,
+}
+
+/// What is known of the blocks of classes.
+#[derive(Drop)]
+pub struct BodiesPart {
+    /// The typed blocks that each class declares itself, where all are known.
+    pub blocks: Option<Items<Items<TBlock>>>,
+    /// What the `solve` items of each class order, the inherited ones among them.
+    pub orders: Items<Items<Order>>,
+    pub fault: Option<Fault>,
+}
+
+/// No blocks.
+pub(crate) fn no_body<'a>(alloc: Global) -> BodyPart<'a>
+    ensures { body_part result ≡ spec.no_body first_one }
+{
+    BodyPart {
+        own: IndexSet::new(alloc),
+        named: IndexSet::new(alloc),
+        blocks: Some(Items::new(alloc)),
+        orders: Items::new(alloc),
+        fault: None,
+    }
+}
+
+impl BodiesPart {
+    /// No classes.
+    pub(crate) fn none(alloc: Global) -> BodiesPart
+        ensures { bodies_part result ≡ spec.no_bodies first_one }
+    {
+        BodiesPart {
+            blocks: Some(Items::new(alloc)),
+            orders: Items::new(alloc),
+            fault: None,
+        }
+    }
+}
