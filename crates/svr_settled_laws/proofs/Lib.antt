@@ -1,0 +1,3 @@
+pub mod SlotKinds
+pub mod WishedMembers
+pub mod UntouchedItems
