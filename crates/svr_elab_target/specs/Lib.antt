@@ -1,0 +1,4 @@
+pub mod Targets
+pub mod Named
+pub mod Seen
+pub mod Fits
