@@ -1,0 +1,6 @@
+mod Tables
+mod Copied
+mod Members
+mod Flat
+mod Declared
+mod Forms

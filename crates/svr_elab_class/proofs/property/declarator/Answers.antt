@@ -1,0 +1,11 @@
+use Rattle.std.proofs.Common.{map, ap}
+use Rattle.svr_tree.specs.DeclTree.{declarator_tree, dimension_tree}
+use Rattle.svr_elab_decl.specs.Seen.{dims_part, used_of}
+use Rattle.svr_elab_class.specs.Seen.{head_of, class_part}
+use Rattle.svr_elab_class.proofs.Forms.{declarator_is}
+use Rattle.svr_elab_class.proofs.property.declarator.Goals as goal
+
+pub returns : goal.returns
+returns c =
+    declarator_is (head_of c.args.head.now) (class_part c.args.part) c.args.rand (used_of c.args.used) (declarator_tree c.args.decl.now) _ (dims_part c.in_ok-dims.dims) _ _ _ _ _
+    c.in_ok-and_property.ensures c.in_ok-dims.ensures (ap (map dimension_tree) c.as_slice.ensures) c.in_ok-first.ensures.number c.in_ok-first.ensures.fault c.kind.ensures c.behind-space.ensures.space

@@ -1,0 +1,328 @@
+// Declarations of classes (IEEE 1800-2017, clause 8).
+
+ghost use Rattle.std.specs.Prelude.{◌≡◌, ◌<◌, ◌^◌, ◌+◌, ◌∷◌, ◌++◌, ℕ, List, IfOk, if◌then◌else◌, map, length};
+ghost use Rattle.std.specs.List.{list_any};
+ghost use Rattle.svr_token.specs.Names.{names_of};
+ghost use Rattle.svr_tree.specs.DeclTree.{class_item_tree, class_tree};
+ghost use Rattle.svr_elab_fault.specs.Refusals.{first_one};
+ghost use Rattle.svr_elab_names.specs.Names as names_spec;
+ghost use Rattle.svr_elab_names.specs.Names.{is_same};
+ghost use Rattle.svr_elab_names.specs.Tables.{global_of, prop_of, class_of, bytes_of};
+ghost use Rattle.svr_elab_part.specs.Fits.{MembersFit};
+ghost use Rattle.svr_elab_type.specs.Types as types;
+ghost use Rattle.svr_elab_decl.specs.Fits.{ClassItemsFit};
+ghost use Rattle.svr_elab_type.specs.Seen.{AreEmpty, globals_part};
+ghost use Rattle.svr_elab_class.specs.Classes as spec;
+ghost use Rattle.svr_elab_class.specs.Seen.{head_of, class_part};
+
+use crate::head::{ClassHead, ClassPart, is_among};
+use crate::later::own_properties;
+use crate::property::class_items;
+use indexmap::{IndexMap, IndexSet};
+use sqlite_items::Items;
+use std::alloc::Global as Heap;
+use svr_elab_fault::{Fault, earlier, when};
+use svr_elab_names::{ClassNames, Global, PropEntry};
+use svr_elab_type::{Globals, NoNames, and_name, double};
+use svr_refusal::Refusal;
+use svr_token::Names;
+use svr_tree::{ClassDecl, ClassItem};
+use svr_typed::NoMemory;
+
+#[tactic(auto, using(svr_elab_names::proofs::Entries::global_found))]
+fn global_named(globals: &IndexMap<&[u8], Global>, name: &[u8]) -> Option<Global>
+    ensures { result ≡ names_spec.global_named (map global_of globals.now.entries) name.now }
+{
+    match globals.get(name) {
+        None => None,
+        Some(stands) => Some(*stands),
+    }
+}
+
+fn class_number(stands: Option<Global>) -> Option<u32>
+    ensures { result ≡ spec.class_number stands }
+{
+    match stands {
+        Some(Global::OfClass(class)) => Some(class),
+        Some(Global::OfType(_)) | Some(Global::OfMember(_, _)) | None => None,
+    }
+}
+
+/// The class that a name stands for.
+fn class_at(names: &Names<'_>, globals: &IndexMap<&[u8], Global>, name: u32) -> Option<u32>
+    ensures { result ≡ spec.class_at (names_of names.now) (map global_of globals.now.entries) name }
+{
+    class_number(global_named(globals, names.name(name)))
+}
+
+fn base_at(names: &Names<'_>, globals: &IndexMap<&[u8], Global>, base: Option<u32>) -> Option<u32>
+    ensures { result ≡ spec.base_at (names_of names.now) (map global_of globals.now.entries) base }
+{
+    match base {
+        None => None,
+        Some(name) => class_at(names, globals, name),
+    }
+}
+
+fn base_fault(
+    names: &Names<'_>,
+    globals: &IndexMap<&[u8], Global>,
+    base: Option<u32>,
+) -> Option<Fault>
+    ensures { result ≡ spec.base_faults first_one (names_of names.now) (map global_of globals.now.entries) base }
+{
+    match base {
+        None => None,
+        Some(name) => when(
+            class_at(names, globals, name).is_none(),
+            name,
+            Refusal::UnknownName,
+        ),
+    }
+}
+
+fn label_fault(names: &Names<'_>, name: u32, label: Option<u32>) -> Option<Fault>
+    ensures { result ≡ spec.label_faults first_one (names_of names.now) name label }
+{
+    match label {
+        None => None,
+        Some(label) => when(
+            names.name(label) != names.name(name),
+            label,
+            Refusal::UnknownName,
+        ),
+    }
+}
+
+#[tactic(auto, using(crate::proofs::Copied::cloned))]
+fn copy_props<'a>(
+    props: &IndexMap<&'a [u8], PropEntry>,
+) -> Result<IndexMap<&'a [u8], PropEntry>, NoMemory>
+    ensures { IfOk result (λ m. map prop_of m.entries ≡ map prop_of props.now.entries) }
+{
+    Ok(props.clone()?)
+}
+
+/// The properties of a base class.
+fn props_at<'a>(
+    alloc: Heap,
+    classes: &[ClassNames<'a>],
+    base: Option<u32>,
+) -> Result<IndexMap<&'a [u8], PropEntry>, NoMemory>
+    ensures { IfOk result (λ m. map prop_of m.entries ≡ spec.props_at (map class_of classes.now) base) }
+{
+    let Some(base) = base else {
+        return Ok(IndexMap::new(alloc));
+    };
+    match classes.get(base as usize) {
+        None => Ok(IndexMap::new(alloc)),
+        Some(class) => copy_props(&class.props),
+    }
+}
+
+#[tactic(auto, using(crate::proofs::Copied::arrays_counted))]
+fn arrays_in(props: &IndexMap<&[u8], PropEntry>) -> usize
+    ensures { result ≡ spec.arrays_in (map prop_of props.now.entries) }
+{
+    props
+        .values()
+        .as_slice()
+        .iter()
+        .filter(|entry| entry.property.dims.is_array())
+        .count()
+}
+
+/// A class before its own items.
+fn class_start<'a>(
+    alloc: Heap,
+    classes: &[ClassNames<'a>],
+    base: Option<u32>,
+) -> Result<ClassPart<'a>, NoMemory>
+    ensures { IfOk result (λ p. class_part p ≡ spec.class_start first_one (map class_of classes.now) base) }
+{
+    let props = props_at(alloc, classes, base)?;
+    let arrays = arrays_in(&props);
+    Ok(ClassPart {
+        props,
+        arrays,
+        own: IndexSet::new(alloc),
+        blocks: IndexSet::new(alloc),
+        fault: None,
+    })
+}
+
+/// One more block, unless one of these names replaces it.
+fn and_block<'a>(
+    blocks: Items<&'a [u8]>,
+    own: &IndexSet<&'a [u8]>,
+    block: &'a [u8],
+) -> Result<Items<&'a [u8]>, NoMemory>
+    ensures { IfOk result (λ bs. (more : List (List ℕ)) → map bytes_of bs ++ more ≡ map bytes_of blocks.entry ++ (if list_any (is_same block.now) (map bytes_of own.now.keys) then more else block.now ∷ more)) }
+{
+    if is_among(own, block) {
+        return Ok(blocks);
+    }
+    let mut blocks = blocks;
+    blocks.push(block)?;
+    Ok(blocks)
+}
+
+/// The blocks that none of these names replaces.
+fn without<'a>(
+    alloc: Heap,
+    own: &IndexSet<&'a [u8]>,
+    inherited: &[&'a [u8]],
+) -> Result<Items<&'a [u8]>, NoMemory>
+    ensures { IfOk result (λ bs. map bytes_of bs ≡ spec.without (map bytes_of own.now.keys) (map bytes_of inherited.now)) }
+{
+    let mut blocks = Items::new(alloc);
+    for block in inherited {
+        blocks = and_block(blocks, own, *block)?;
+    }
+    Ok(blocks)
+}
+
+fn inherited_blocks<'a>(
+    alloc: Heap,
+    own: &IndexSet<&'a [u8]>,
+    classes: &[ClassNames<'a>],
+    base: Option<u32>,
+) -> Result<Items<&'a [u8]>, NoMemory>
+    ensures { IfOk result (λ bs. map bytes_of bs ≡ spec.without (map bytes_of own.now.keys) (spec.blocks_at (map class_of classes.now) base)) }
+{
+    let Some(base) = base else {
+        return Ok(Items::new(alloc));
+    };
+    match classes.get(base as usize) {
+        None => Ok(Items::new(alloc)),
+        Some(class) => without(alloc, own, class.blocks.as_slice()),
+    }
+}
+
+/// These blocks, and then the others.
+fn with_blocks<'a>(first: Items<&'a [u8]>, others: &[&'a [u8]]) -> Result<Items<&'a [u8]>, NoMemory>
+    ensures { IfOk result (λ bs. map bytes_of bs ≡ map bytes_of first.entry ++ map bytes_of others.now) }
+{
+    let mut blocks = first;
+    for block in others {
+        blocks.push(*block)?;
+    }
+    Ok(blocks)
+}
+
+/// The names of all blocks in flat order (IEEE 1800-2017, 18.5.2).
+fn all_blocks<'a>(
+    alloc: Heap,
+    own: &IndexSet<&'a [u8]>,
+    classes: &[ClassNames<'a>],
+    base: Option<u32>,
+) -> Result<Items<&'a [u8]>, NoMemory>
+    ensures { IfOk result (λ bs. map bytes_of bs ≡ spec.without (map bytes_of own.now.keys) (spec.blocks_at (map class_of classes.now) base) ++ map bytes_of own.now.keys) }
+{
+    let inherited = inherited_blocks(alloc, own, classes, base)?;
+    Ok(with_blocks(inherited, own.as_slice())?)
+}
+
+fn count_inherited(classes: &[ClassNames<'_>], base: Option<u32>) -> usize
+    ensures { result ≡ length (spec.props_at (map class_of classes.now) base) }
+{
+    let Some(base) = base else {
+        return 0;
+    };
+    match classes.get(base as usize) {
+        None => 0,
+        Some(class) => class.props.len(),
+    }
+}
+
+fn class_names<'a>(
+    alloc: Heap,
+    classes: &[ClassNames<'a>],
+    base: Option<u32>,
+    name: &'a [u8],
+    part: ClassPart<'a>,
+) -> Result<ClassNames<'a>, NoMemory>
+    ensures { IfOk result (λ c. class_of c ≡ spec.class_name (map class_of classes.now) base name.now (class_part part.entry)) }
+{
+    let blocks = all_blocks(alloc, &part.blocks, classes, base)?;
+    Ok(ClassNames {
+        name,
+        base,
+        props: part.props,
+        inherited: count_inherited(classes, base),
+        blocks,
+    })
+}
+
+/// The number of the class behind these.
+fn number_behind(classes: &[ClassNames<'_>]) -> u32
+    requires { length classes.now < 2 ^ 32 }
+    ensures { result ≡ length (map class_of classes.now) }
+{
+    classes.len() as u32
+}
+
+/// What is known of a class after all of its items.
+fn class_body<'a>(
+    alloc: Heap,
+    head: &ClassHead<'_, 'a>,
+    items: &[ClassItem],
+) -> Result<ClassPart<'a>, NoMemory>
+    requires none { AreEmpty head.now.none.now }
+    requires members { MembersFit (head_of head.now).names }
+    requires fits { ClassItemsFit 0 (map class_item_tree items.now) }
+    ensures { IfOk result (λ p. class_part p ≡ spec.class_body first_one (head_of head.now) (map class_item_tree items.now)) }
+{
+    let start = class_start(alloc, head.classes, head.base)?;
+    Ok(class_items(alloc, head, start, items)?)
+}
+
+/// One more class. `names`: what the tokens spell; `none`: what no declaration can name.
+pub fn class_decl<'a>(
+    alloc: Heap,
+    names: &Names<'a>,
+    none: &NoNames<'a>,
+    globals: Globals<'a>,
+    decl: &ClassDecl,
+) -> Result<Globals<'a>, NoMemory>
+    requires none { AreEmpty none.now }
+    requires classes { length globals.classes < 2 ^ 32 }
+    requires members { MembersFit (types.declaring (names_of names.now) (map global_of globals.names.entries) (map class_of globals.classes)) }
+    requires fits { ClassItemsFit 0 (class_tree decl.now).items }
+    ensures value { IfOk result (λ s. globals_part (names_of names.now) s ≡ spec.class_decl first_one (globals_part (names_of names.now) globals.entry) (class_tree decl.now)) }
+    ensures members { IfOk result (λ s. MembersFit (types.declaring (names_of names.now) (map global_of s.names.entries) (map class_of s.classes))) }
+    ensures enums { IfOk result (λ s. s.enums ≡ globals.entry.enums) }
+    ensures count { IfOk result (λ s. length s.classes ≡ length globals.entry.classes + 1) }
+{
+    let spelled = names.name(decl.name);
+    let number = number_behind(globals.classes.as_slice());
+    let base = base_at(names, &globals.names, decl.base);
+    let base_fault = base_fault(names, &globals.names, decl.base);
+    let twice = double(&globals.names, spelled, decl.name);
+    let later = own_properties(names, IndexSet::new(alloc), decl.items.as_slice())?;
+    let table = and_name(globals.names, spelled, Global::OfClass(number))?;
+    let mut classes = globals.classes;
+    let part = {
+        let head = ClassHead {
+            number,
+            base,
+            enums: globals.enums.as_slice(),
+            names: *names,
+            globals: &table,
+            classes: classes.as_slice(),
+            later: &later,
+            none: &*none,
+        };
+        class_body(alloc, &head, decl.items.as_slice())?
+    };
+    let own = earlier(part.fault, label_fault(names, decl.name, decl.label));
+    let fault = earlier(globals.fault, earlier(base_fault, earlier(twice, own)));
+    let class = class_names(alloc, classes.as_slice(), base, spelled, part)?;
+    classes.push(class)?;
+    Ok(Globals {
+        names: table,
+        classes,
+        enums: globals.enums,
+        fault,
+    })
+}

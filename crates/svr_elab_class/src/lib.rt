@@ -1,0 +1,13 @@
+//! Classes with their properties in flat order and the names of their blocks, with their first refusal (IEEE 1800-2017, clauses 8 and 18.5.2).
+//!
+//! `specs/Classes.antt` defines what is known of a class, with all refusals or the first one; contracts here have the first one.
+#![tactic(auto)]
+
+mod class;
+pub mod examples;
+mod head;
+mod later;
+mod property;
+
+pub use class::class_decl;
+pub use head::{ClassHead, ClassPart};

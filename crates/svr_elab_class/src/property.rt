@@ -1,0 +1,273 @@
+// Properties and blocks of a class, each behind those before it.
+
+ghost use Rattle.std.specs.Prelude.{◌≡◌, ◌<◌, IfOk, map, min};
+ghost use Rattle.svr_limits.specs.declared.limit.TheConstants.{PROPERTY_LIMIT};
+ghost use Rattle.svr_token.specs.Names.{names_of};
+ghost use Rattle.svr_tree.specs.DeclTree as tree;
+ghost use Rattle.svr_tree.specs.DeclTree.{declarator_tree, property_tree, block_tree, class_item_tree};
+ghost use Rattle.svr_elab_fault.specs.Refusals.{first_one};
+ghost use Rattle.svr_elab_names.specs.Tables.{prop_of};
+ghost use Rattle.svr_elab_part.specs.Fits.{MembersFit, KindFits};
+ghost use Rattle.svr_elab_decl.specs.Properties.{used_kind};
+ghost use Rattle.svr_elab_decl.specs.Fits.{TypeFits, DeclaratorFits, DeclaratorsFit, ClassItemFits, ClassItemsFit};
+ghost use Rattle.svr_elab_type.specs.Seen.{AreEmpty};
+ghost use Rattle.svr_elab_decl.specs.Seen.{dims_part, used_of, used_part};
+ghost use Rattle.svr_elab_class.specs.Classes as spec;
+ghost use Rattle.svr_elab_class.specs.Seen.{head_of, class_part};
+
+use crate::head::{ClassHead, ClassPart, is_among, is_inherited, with_name};
+use indexmap::IndexMap;
+use std::alloc::Global;
+use svr_elab_decl::{
+    ARRAY_LIMIT, Before, DimsPart, InitialPart, Used, UsedPart, data_type, dims_of, initial_value,
+    is_wide_cycle, property_fault, property_of,
+};
+use svr_elab_fault::{Fault, earlier, when};
+use svr_elab_names::{Dims, PropEntry, Property};
+use svr_limits::PROPERTY_LIMIT;
+use svr_operator::Rand;
+use svr_refusal::Refusal;
+use svr_tree::{ClassItem, Declarator, PropertyDecl};
+use svr_typed::NoMemory;
+
+/// The properties with one more, unless its name is there.
+fn and_prop<'a>(
+    props: IndexMap<&'a [u8], PropEntry>,
+    name: &'a [u8],
+    property: Property,
+    first: u64,
+) -> Result<IndexMap<&'a [u8], PropEntry>, NoMemory>
+    ensures { IfOk result (λ m. map prop_of m.entries ≡ spec.and_prop (map prop_of props.entry.entries) name.now property first) }
+{
+    let mut props = props;
+    if props.get(name).is_some() {
+        return Ok(props);
+    }
+    match props.insert(name, PropEntry { property, first }) {
+        Ok(_) => Ok(props),
+        Err(_) => Err(NoMemory),
+    }
+}
+
+fn and_array(arrays: usize, dims: Dims) -> usize
+    ensures { result ≡ spec.and_array arrays dims }
+{
+    if dims.is_array() {
+        arrays.saturating_add(1).min(ARRAY_LIMIT + 1)
+    } else {
+        arrays
+    }
+}
+
+/// The number of a property behind so many, where one past the limit counts as the limit.
+fn number_behind(count: usize) -> u32
+    ensures { result ≡ min count PROPERTY_LIMIT }
+{
+    count.min(PROPERTY_LIMIT as usize) as u32
+}
+
+/// One more property, whose dimensions and initial value are known.
+fn and_property<'a>(
+    head: &ClassHead<'_, 'a>,
+    part: ClassPart<'a>,
+    name: u32,
+    rand: Rand,
+    used: Used,
+    first: InitialPart,
+    dims: DimsPart,
+) -> Result<ClassPart<'a>, NoMemory>
+    ensures { IfOk result (λ p. class_part p ≡ spec.and_property first_one (head_of head.now) (class_part part.entry) name rand (used_of used) first.number first.fault (dims_part dims)) }
+{
+    let spelled = head.names.name(name);
+    let doubles = is_among(&part.own, spelled);
+    let before = Before {
+        props: part.props.len(),
+        arrays: part.arrays,
+        inherits: is_inherited(head.classes, head.base, spelled),
+        doubles,
+        wide: is_wide_cycle(head.enums, used.kind()),
+    };
+    let own = property_fault(before, name, rand, used, dims.dims);
+    let fault = earlier(part.fault, earlier(dims.fault, earlier(first.fault, own)));
+    if doubles {
+        return Ok(ClassPart {
+            props: part.props,
+            arrays: part.arrays,
+            own: part.own,
+            blocks: part.blocks,
+            fault,
+        });
+    }
+    let number = number_behind(part.props.len());
+    let property = property_of(number, head.number, rand, used.kind(), dims.dims);
+    Ok(ClassPart {
+        props: and_prop(part.props, spelled, property, first.number)?,
+        arrays: and_array(part.arrays, dims.dims),
+        own: with_name(part.own, spelled)?,
+        blocks: part.blocks,
+        fault,
+    })
+}
+
+fn declarator<'a>(
+    alloc: Global,
+    head: &ClassHead<'_, 'a>,
+    part: ClassPart<'a>,
+    rand: Rand,
+    used: Used,
+    decl: &Declarator,
+) -> Result<ClassPart<'a>, NoMemory>
+    requires none { AreEmpty head.now.none.now }
+    requires members { MembersFit (head_of head.now).names }
+    requires kind { KindFits (used_kind (used_of used)) }
+    requires fits { DeclaratorFits 0 (declarator_tree decl.now) }
+    ensures { IfOk result (λ p. class_part p ≡ spec.declarator first_one (head_of head.now) (class_part part.entry) rand (used_of used) (declarator_tree decl.now)) }
+{
+    let (dims, first) = {
+        let space = head.behind(&part.props);
+        let dims = dims_of(alloc, decl.name, decl.dims.as_slice(), &space)?;
+        let first = initial_value(
+            alloc,
+            decl.name,
+            used.kind(),
+            dims.dims,
+            &decl.value,
+            &space,
+        )?;
+        (dims, first)
+    };
+    Ok(and_property(head, part, decl.name, rand, used, first, dims)?)
+}
+
+fn declarators<'a>(
+    alloc: Global,
+    head: &ClassHead<'_, 'a>,
+    start: ClassPart<'a>,
+    rand: Rand,
+    used: Used,
+    list: &[Declarator],
+) -> Result<ClassPart<'a>, NoMemory>
+    requires none { AreEmpty head.now.none.now }
+    requires members { MembersFit (head_of head.now).names }
+    requires kind { KindFits (used_kind (used_of used)) }
+    requires fits { DeclaratorsFit 0 (map declarator_tree list.now) }
+    ensures { IfOk result (λ p. class_part p ≡ spec.declarators first_one (head_of head.now) (class_part start.entry) rand (used_of used) (map declarator_tree list.now)) }
+{
+    let mut part = start;
+    for decl in list {
+        part = declarator(alloc, head, part, rand, used, decl)?;
+    }
+    Ok(part)
+}
+
+fn and_fault(part: ClassPart<'_>, fault: Option<Fault>) -> ClassPart<'_>
+    ensures { class_part result ≡ spec.and_faults first_one (class_part part.entry) fault }
+{
+    let fault = earlier(part.fault, fault);
+    ClassPart {
+        props: part.props,
+        arrays: part.arrays,
+        own: part.own,
+        blocks: part.blocks,
+        fault,
+    }
+}
+
+fn property_decl<'a>(
+    alloc: Global,
+    head: &ClassHead<'_, 'a>,
+    part: ClassPart<'a>,
+    used: UsedPart,
+    decl: &PropertyDecl,
+) -> Result<ClassPart<'a>, NoMemory>
+    requires none { AreEmpty head.now.none.now }
+    requires members { MembersFit (head_of head.now).names }
+    requires kind { KindFits (used_kind (used_of used.used)) }
+    requires fits { DeclaratorsFit 0 (property_tree decl.now).decls }
+    ensures { IfOk result (λ p. class_part p ≡ spec.property_decl first_one (head_of head.now) (class_part part.entry) decl.now.rand (used_part used) (property_tree decl.now).decls) }
+{
+    let part = and_fault(part, used.fault);
+    Ok(declarators(
+        alloc,
+        head,
+        part,
+        decl.rand,
+        used.used,
+        decl.decls.as_slice(),
+    )?)
+}
+
+/// One more block, whose items come later.
+fn with_block<'a>(
+    part: ClassPart<'a>,
+    spelled: &'a [u8],
+    name: u32,
+) -> Result<ClassPart<'a>, NoMemory>
+    ensures { IfOk result (λ p. class_part p ≡ spec.with_block first_one (class_part part.entry) spelled.now name) }
+{
+    if is_among(&part.own, spelled) {
+        return Ok(and_fault(part, when(true, name, Refusal::DoubleName)));
+    }
+    Ok(ClassPart {
+        props: part.props,
+        arrays: part.arrays,
+        own: with_name(part.own, spelled)?,
+        blocks: with_name(part.blocks, spelled)?,
+        fault: part.fault,
+    })
+}
+
+fn property_item<'a>(
+    alloc: Global,
+    head: &ClassHead<'_, 'a>,
+    part: ClassPart<'a>,
+    decl: &PropertyDecl,
+) -> Result<ClassPart<'a>, NoMemory>
+    requires none { AreEmpty head.now.none.now }
+    requires members { MembersFit (head_of head.now).names }
+    requires kind { TypeFits 0 (property_tree decl.now).kind }
+    requires fits { DeclaratorsFit 0 (property_tree decl.now).decls }
+    ensures { IfOk result (λ p. class_part p ≡ spec.class_item first_one (head_of head.now) (class_part part.entry) (tree.property (property_tree decl.now))) }
+{
+    let used = {
+        let space = head.behind(&part.props);
+        data_type(alloc, &decl.kind, &space)?
+    };
+    Ok(property_decl(alloc, head, part, used, decl)?)
+}
+
+fn class_item<'a>(
+    alloc: Global,
+    head: &ClassHead<'_, 'a>,
+    part: ClassPart<'a>,
+    item: &ClassItem,
+) -> Result<ClassPart<'a>, NoMemory>
+    requires none { AreEmpty head.now.none.now }
+    requires members { MembersFit (head_of head.now).names }
+    requires fits { ClassItemFits 0 (class_item_tree item.now) }
+    ensures { IfOk result (λ p. class_part p ≡ spec.class_item first_one (head_of head.now) (class_part part.entry) (class_item_tree item.now)) }
+{
+    match item {
+        ClassItem::Property(decl) => property_item(alloc, head, part, decl),
+        ClassItem::Constraint(block) => with_block(part, head.names.name(block.name), block.name),
+    }
+}
+
+/// The items of a class, each behind those before it.
+pub(crate) fn class_items<'a>(
+    alloc: Global,
+    head: &ClassHead<'_, 'a>,
+    start: ClassPart<'a>,
+    list: &[ClassItem],
+) -> Result<ClassPart<'a>, NoMemory>
+    requires none { AreEmpty head.now.none.now }
+    requires members { MembersFit (head_of head.now).names }
+    requires fits { ClassItemsFit 0 (map class_item_tree list.now) }
+    ensures { IfOk result (λ p. class_part p ≡ spec.class_items first_one (head_of head.now) (class_part start.entry) (map class_item_tree list.now)) }
+{
+    let mut part = start;
+    for item in list {
+        part = class_item(alloc, head, part, item)?;
+    }
+    Ok(part)
+}
