@@ -1,0 +1,32 @@
+use Rattle.std.proofs.Common.{◌∙◌, sym, subst}
+use Rattle.svr_frame.specs.Frame.{FrameTerm, frame_term}
+use Rattle.svr_frame.specs.Sound.{IsSound, SizesFit}
+use Rattle.svr_blast_tests.specs.Sample.{sample_sizes}
+use Rattle.svr_blast_tests.proofs.Sound.{sample_is_sound, sample_sizes_fit}
+use Rattle.svr_blast_tests.proofs.Asked.{one_typed, one_inside, one_readable, one_fixed, all_slots}
+use Rattle.svr_blast_tests.proofs.encoding.asked.Goals as goal
+
+pub blast-requires-clause-sound : goal.blast-requires-clause-sound
+blast-requires-clause-sound c = subst IsSound (sym c.requires) sample_is_sound
+
+pub blast-requires-clause-fit : goal.blast-requires-clause-fit
+blast-requires-clause-fit c = subst (λ (f : FrameTerm). SizesFit f sample_sizes) (sym c.requires) sample_sizes_fit
+
+pub blast-requires-clause-slots : goal.blast-requires-clause-slots
+blast-requires-clause-slots c = c.in_ok-slots.ensures ∙ all_slots (frame_term c.args.frame.now) c.part_of-part.result c.requires
+
+pub blast-requires-clause-typed : goal.blast-requires-clause-typed
+blast-requires-clause-typed c =
+    one_typed c.args.form c.in_ok-item.field-0 c.in_ok-items.items.items c.in_ok-items.ensures c.in_ok-item.ensures
+
+pub blast-requires-clause-inside : goal.blast-requires-clause-inside
+blast-requires-clause-inside c =
+    one_inside c.args.form c.in_ok-item.field-0 c.in_ok-items.items.items c.in_ok-items.ensures c.in_ok-item.ensures (frame_term c.args.frame.now) c.requires
+
+pub blast-requires-clause-readable : goal.blast-requires-clause-readable
+blast-requires-clause-readable c =
+    one_readable c.args.form c.in_ok-item.field-0 c.in_ok-items.items.items c.in_ok-items.ensures c.in_ok-item.ensures (frame_term c.args.frame.now) c.requires
+
+pub blast-requires-clause-fixed : goal.blast-requires-clause-fixed
+blast-requires-clause-fixed c =
+    one_fixed c.args.form c.in_ok-item.field-0 c.in_ok-items.items.items c.in_ok-items.ensures c.in_ok-item.ensures (frame_term c.args.frame.now) c.part_of-part.result c.requires c.part_of-part.ensures
