@@ -1,0 +1,5 @@
+use Rattle.std.proofs.Common.{rules}
+use Rattle.svr_elab_stmt.proofs.list.no_stmts.Goals as goal
+
+pub returns-clause-value : goal.returns-clause-value
+returns-clause-value c = λ made. search rules

@@ -1,0 +1,3 @@
+pub mod Stmts
+pub mod Seen
+pub mod Fits
