@@ -80,7 +80,7 @@ impl Reader {
         let base = self.name_behind(cursor, Fixed::Word(Word::Extends))?;
         cursor.expect(Fixed::Mark(Mark::Semicolon))?;
         let (items, height) = self.class_items(cursor)?;
-        let label = self.name_behind(cursor, Fixed::Mark(Mark::Colon))?;
+        let (items, label) = self.label_behind(cursor, items, Fixed::Mark(Mark::Colon))?;
         let found = ClassDecl {
             name,
             base,

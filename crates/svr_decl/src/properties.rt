@@ -5,10 +5,12 @@ ghost use Rattle.svr_tree.specs.DeclTree.{dimension_tree, declarator_tree, prope
 ghost use Rattle.svr_reader.specs.Lists as lists;
 ghost use Rattle.svr_reader.specs.Answers.{Gives};
 ghost use Rattle.svr_reader.specs.Calls.{cap, height_view, heights_view};
+ghost use Rattle.svr_item.specs.Parts.{Behind};
 ghost use Rattle.svr_decl.specs.DeclRules as rules;
 
 use crate::reader::Reader;
 use sqlite_items::Items;
+use svr_item::{ended, pushed};
 use svr_operator::Rand;
 use svr_reader::{Cursor, Fixed, ReadFault, listing};
 use svr_token::{Mark, Word};
@@ -23,13 +25,14 @@ impl Reader {
     {
         let (first, first_height) = self.expression(cursor)?;
         if cursor.eat(Fixed::Mark(Mark::Colon)) {
-            let (last, last_height) = self.expression(cursor)?;
-            cursor.expect(Fixed::Mark(Mark::CloseBracket))?;
-            let height = first_height.max(last_height);
-            Ok((Dimension::Bounds(first, last), height))
+            let (first, (last, last_height)) = self.expression_behind(cursor, first)?;
+            let bounds = Dimension::Bounds(first, last);
+            let bounds = ended(cursor, bounds, Fixed::Mark(Mark::CloseBracket))?;
+            Ok((bounds, first_height.max(last_height)))
         } else {
-            cursor.expect(Fixed::Mark(Mark::CloseBracket))?;
-            Ok((Dimension::Size(first), first_height))
+            let size = Dimension::Size(first);
+            let size = ended(cursor, size, Fixed::Mark(Mark::CloseBracket))?;
+            Ok((size, first_height))
         }
     }
 
@@ -49,6 +52,21 @@ impl Reader {
         self.size_or_bounds(cursor)
     }
 
+    /// A dimension behind `[`, behind what was found.
+    fn dimension_behind<T: Drop>(
+        &self,
+        cursor: &mut Cursor<'_>,
+        found: T,
+    ) -> Result<(T, (Dimension, usize)), ReadFault>
+        ensures gives { Behind found (height_view dimension_tree) (rules.within cap self.now.room rules.dimension cursor.old) result cursor.new }
+        ensures low { IfOk result (λ x. x.1.1 ≤ self.now.room) }
+    {
+        match self.dimension(cursor) {
+            Ok(next) => Ok((found, next)),
+            Err(fault) => Err(fault),
+        }
+    }
+
     // The dimensions behind the first one, with it: one more at most.
     #[tactic(auto, unfolding(crate::specs::DeclRules::dimensions_on))]
     fn dimensions_on(
@@ -61,11 +79,10 @@ impl Reader {
         ensures gives { Gives (heights_view dimension_tree) (rules.within cap self.now.room (rules.dimensions_on (height_view dimension_tree (outer, outer_height))) cursor.old) result cursor.new }
         ensures low { IfOk result (λ x. x.1 ≤ self.now.room) }
     {
-        let mut dims = Items::new(self.alloc);
-        dims.push(outer)?;
+        let dims = pushed(Items::new(self.alloc), outer)?;
         if cursor.eat(Fixed::Mark(Mark::OpenBracket)) {
-            let (inner, inner_height) = self.dimension(cursor)?;
-            dims.push(inner)?;
+            let (dims, (inner, inner_height)) = self.dimension_behind(cursor, dims)?;
+            let dims = pushed(dims, inner)?;
             Ok((dims, outer_height.max(inner_height)))
         } else {
             Ok((dims, outer_height))
@@ -93,7 +110,7 @@ impl Reader {
     {
         let name = cursor.name()?;
         let (dims, dims_height) = self.dimensions(cursor)?;
-        let (value, value_height) = self.initial(cursor)?;
+        let (dims, (value, value_height)) = self.initial_behind(cursor, dims)?;
         let height = dims_height.max(value_height);
         Ok((Declarator { name, dims, value }, height))
     }
@@ -103,6 +120,21 @@ impl Reader {
         ensures low { IfOk result (λ x. x.1 ≤ self.now.room) }
     {
         listing(self.alloc, cursor, |cursor| self.declarator(cursor))
+    }
+
+    /// Declarators behind what was found.
+    fn declarators_behind<T: Drop>(
+        &self,
+        cursor: &mut Cursor<'_>,
+        found: T,
+    ) -> Result<(T, (Items<Declarator>, usize)), ReadFault>
+        ensures gives { Behind found (heights_view declarator_tree) (rules.within cap self.now.room (lists.listing rules.declarator) cursor.old) result cursor.new }
+        ensures low { IfOk result (λ x. x.1.1 ≤ self.now.room) }
+    {
+        match self.declarators(cursor) {
+            Ok(next) => Ok((found, next)),
+            Err(fault) => Err(fault),
+        }
     }
 
     // Behind the qualifier.
@@ -116,10 +148,10 @@ impl Reader {
         ensures low { IfOk result (λ x. x.1 ≤ self.now.room) }
     {
         let (kind, kind_height) = self.data_type(cursor)?;
-        let (decls, decls_height) = self.declarators(cursor)?;
-        cursor.expect(Fixed::Mark(Mark::Semicolon))?;
-        let height = kind_height.max(decls_height);
-        Ok((PropertyDecl { rand, kind, decls }, height))
+        let (kind, (decls, decls_height)) = self.declarators_behind(cursor, kind)?;
+        let found = PropertyDecl { rand, kind, decls };
+        let found = ended(cursor, found, Fixed::Mark(Mark::Semicolon))?;
+        Ok((found, kind_height.max(decls_height)))
     }
 
     /// IEEE 1800-2017, A.1.9: `class_property`

@@ -7,6 +7,7 @@ ghost use Rattle.svr_reader.specs.Calls.{cap, height_view};
 ghost use Rattle.svr_decl.specs.DeclRules as rules;
 
 use crate::reader::Reader;
+use svr_item::ended;
 use svr_reader::{Cursor, Fixed, ReadFault};
 use svr_token::{Lexeme, Mark, Word};
 use svr_tree::{AtomKind, DataType, IntegerType, PackedRange, Signing, VectorKind};
@@ -15,19 +16,17 @@ use svr_tree::{AtomKind, DataType, IntegerType, PackedRange, Signing, VectorKind
 pub fn starts_type(lexeme: Option<Lexeme>) -> bool
     ensures { result ≡ rules.starts_type lexeme }
 {
-    matches!(
-        lexeme,
-        Some(Lexeme::Word(
-            Word::Bit
-                | Word::Logic
-                | Word::Reg
-                | Word::Byte
-                | Word::ShortInt
-                | Word::Int
-                | Word::LongInt
-                | Word::Integer
-        ))
-    )
+    match lexeme {
+        Some(Lexeme::Word(Word::Bit)) => true,
+        Some(Lexeme::Word(Word::Logic)) => true,
+        Some(Lexeme::Word(Word::Reg)) => true,
+        Some(Lexeme::Word(Word::Byte)) => true,
+        Some(Lexeme::Word(Word::ShortInt)) => true,
+        Some(Lexeme::Word(Word::Int)) => true,
+        Some(Lexeme::Word(Word::LongInt)) => true,
+        Some(Lexeme::Word(Word::Integer)) => true,
+        _ => false,
+    }
 }
 
 /// Whether a token begins an integer type or is a name, which may be that of a type or class. None is the end of the text.
@@ -69,13 +68,11 @@ impl Reader {
         ensures low { IfOk result (λ x. x.1 ≤ self.now.room) }
     {
         let (msb, msb_height) = self.expression(cursor)?;
-        cursor.expect(Fixed::Mark(Mark::Colon))?;
-        let (lsb, lsb_height) = self.expression(cursor)?;
-        cursor.expect(Fixed::Mark(Mark::CloseBracket))?;
-        Ok((
-            Some(PackedRange { at, msb, lsb }),
-            msb_height.max(lsb_height),
-        ))
+        let msb = ended(cursor, msb, Fixed::Mark(Mark::Colon))?;
+        let (msb, (lsb, lsb_height)) = self.expression_behind(cursor, msb)?;
+        let range = PackedRange { at, msb, lsb };
+        let range = ended(cursor, range, Fixed::Mark(Mark::CloseBracket))?;
+        Ok((Some(range), msb_height.max(lsb_height)))
     }
 
     #[tactic(auto, unfolding(crate::specs::DeclRules::packed))]

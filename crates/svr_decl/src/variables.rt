@@ -5,11 +5,13 @@ ghost use Rattle.svr_tree.specs.DeclTree.{type_tree, var_init_tree, var_declarat
 ghost use Rattle.svr_reader.specs.Lists as lists;
 ghost use Rattle.svr_reader.specs.Answers.{Gives};
 ghost use Rattle.svr_reader.specs.Calls.{cap, height_view, heights_view};
+ghost use Rattle.svr_item.specs.Parts.{Behind};
 ghost use Rattle.svr_decl.specs.DeclRules as rules;
 
 use crate::reader::Reader;
 use sqlite_items::Items;
 use std::alloc::Global;
+use svr_item::ended;
 use svr_reader::{Cursor, Fixed, ReadFault, listing};
 use svr_token::{Mark, Word};
 use svr_tree::{DataType, VarDecl, VarDeclarator, VarInit};
@@ -97,6 +99,21 @@ impl Reader {
         listing(self.alloc, cursor, |cursor| self.var_declarator(cursor))
     }
 
+    /// Variables with commas between them, behind what was found.
+    fn var_declarators_behind<T: Drop>(
+        &self,
+        cursor: &mut Cursor<'_>,
+        found: T,
+    ) -> Result<(T, (Items<VarDeclarator>, usize)), ReadFault>
+        ensures gives { Behind found (heights_view var_declarator_tree) (rules.within cap self.now.room (lists.listing rules.var_declarator) cursor.old) result cursor.new }
+        ensures low { IfOk result (λ x. x.1.1 ≤ self.now.room) }
+    {
+        match self.var_declarators(cursor) {
+            Ok(next) => Ok((found, next)),
+            Err(fault) => Err(fault),
+        }
+    }
+
     // Behind the type.
     #[tactic(auto, unfolding(crate::specs::DeclRules::vars_on))]
     fn vars_on(
@@ -109,9 +126,10 @@ impl Reader {
         ensures gives { Gives (height_view var_tree) (rules.within cap self.now.room (rules.vars_on (height_view type_tree (kind, kind_height))) cursor.old) result cursor.new }
         ensures low { IfOk result (λ x. x.1 ≤ self.now.room) }
     {
-        let (vars, vars_height) = self.var_declarators(cursor)?;
-        cursor.expect(Fixed::Mark(Mark::Semicolon))?;
-        Ok((VarDecl { kind, vars }, kind_height.max(vars_height)))
+        let (kind, (vars, vars_height)) = self.var_declarators_behind(cursor, kind)?;
+        let found = VarDecl { kind, vars };
+        let found = ended(cursor, found, Fixed::Mark(Mark::Semicolon))?;
+        Ok((found, kind_height.max(vars_height)))
     }
 
     #[tactic(auto, unfolding(crate::specs::DeclRules::var_in))]

@@ -25,6 +25,7 @@ use indexmap::IndexSet;
 use sqlite_items::Items;
 use std::alloc::Global;
 use svr_elab_fault::{Fault, earlier};
+use svr_elab_form::pushed;
 use svr_elab_item::{Around, ItemsPart};
 use svr_elab_names::{NameSpace, Region};
 use svr_elab_order::Order;
@@ -69,14 +70,10 @@ fn and_typed(
 ) -> Result<Option<Items<TBlock>>, NoMemory>
     ensures { IfOk result (λ bs. option_map (map block_term) bs ≡ and_more (option_map (map block_term) blocks) (option_map block_term block)) }
 {
-    let Some(mut blocks) = blocks else {
-        return Ok(None);
-    };
-    let Some(block) = block else {
-        return Ok(None);
-    };
-    blocks.push(block)?;
-    Ok(Some(blocks))
+    match blocks.zip(block) {
+        None => Ok(None),
+        Some((blocks, block)) => Ok(Some(pushed(blocks, block)?)),
+    }
 }
 
 /// A block whose name an earlier declaration has: what it holds is refused all the same.
@@ -192,14 +189,10 @@ fn and_blocks(
 ) -> Result<Option<Items<Items<TBlock>>>, NoMemory>
     ensures { IfOk result (λ bs. option_map (map block_terms) bs ≡ and_more (option_map (map block_terms) all) (option_map block_terms blocks)) }
 {
-    let Some(mut all) = all else {
-        return Ok(None);
-    };
-    let Some(blocks) = blocks else {
-        return Ok(None);
-    };
-    all.push(blocks)?;
-    Ok(Some(all))
+    match all.zip(blocks) {
+        None => Ok(None),
+        Some((all, blocks)) => Ok(Some(pushed(all, blocks)?)),
+    }
 }
 
 fn and_all(orders: Items<Items<Order>>, more: Items<Order>) -> Result<Items<Items<Order>>, NoMemory>

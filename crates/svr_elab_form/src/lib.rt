@@ -14,7 +14,7 @@ pub use law::keeps_the_first;
 pub use leaf::{literal, path_part};
 pub use list::{
     and_part, and_range, copies_part, dollar_bound, inside_part, join_part, no_parts, no_ranges,
-    span_range, value_bound, value_range,
+    pushed, span_range, value_bound, value_range,
 };
 pub use operator::{
     binary_part, choice_part, paren_part, plain, sign_part, sole, unary_part, with_parens,

@@ -1,6 +1,6 @@
 // Lists of parts: concatenations, replications and sets.
 
-ghost use Rattle.std.specs.Prelude.{◌≡◌, ◌<ℤ◌, ◌≤ℤ◌, pos, ◌^◌, IfOk, IfSome, map, option_map};
+ghost use Rattle.std.specs.Prelude.{◌≡◌, ◌++◌, ◌∷◌, [], ◌<ℤ◌, ◌≤ℤ◌, pos, ◌^◌, IfOk, IfSome, map, option_map};
 ghost use Rattle.svr_typed.specs.ExprTerm as term;
 ghost use Rattle.svr_typed.specs.ExprTerm.{expr_term, node_term, range_term, bound_term};
 ghost use Rattle.svr_elab_fault.specs.Refusals.{first_one};
@@ -29,20 +29,25 @@ pub fn no_parts(alloc: Global) -> Parts
     }
 }
 
+/// A list with one more value behind it.
+pub fn pushed<T: Drop>(list: Items<T>, value: T) -> Result<Items<T>, NoMemory>
+    ensures { IfOk result (λ l. l ≡ list ++ value ∷ []) }
+{
+    let mut list = list;
+    list.push(value)?;
+    Ok(list)
+}
+
 fn and_tree(
     trees: Option<Items<TExpr>>,
     tree: Option<TExpr>,
 ) -> Result<Option<Items<TExpr>>, NoMemory>
     ensures { IfOk result (λ t. option_map (map expr_term) t ≡ shapes.and_more (option_map (map expr_term) trees) (option_map expr_term tree)) }
 {
-    let Some(mut trees) = trees else {
-        return Ok(None);
-    };
-    let Some(tree) = tree else {
-        return Ok(None);
-    };
-    trees.push(tree)?;
-    Ok(Some(trees))
+    match trees.zip(tree) {
+        None => Ok(None),
+        Some((trees, tree)) => Ok(Some(pushed(trees, tree)?)),
+    }
 }
 
 /// The bits so far and those of one more, where over 64 count as 65.
@@ -123,14 +128,10 @@ fn and_member(
 ) -> Result<Option<Items<TRange>>, NoMemory>
     ensures { IfOk result (λ t. option_map (map range_term) t ≡ shapes.and_more (option_map (map range_term) trees) (option_map range_term tree)) }
 {
-    let Some(mut trees) = trees else {
-        return Ok(None);
-    };
-    let Some(tree) = tree else {
-        return Ok(None);
-    };
-    trees.push(tree)?;
-    Ok(Some(trees))
+    match trees.zip(tree) {
+        None => Ok(None),
+        Some((trees, tree)) => Ok(Some(pushed(trees, tree)?)),
+    }
 }
 
 /// The members of a set with one more behind them.
@@ -167,13 +168,10 @@ pub fn value_range(part: Part) -> RangePart
 fn span_tree(low: Option<TBound>, high: Option<TBound>) -> Option<TRange>
     ensures { option_map range_term result ≡ shapes.both_known term.span (option_map bound_term low) (option_map bound_term high) }
 {
-    let Some(low) = low else {
-        return None;
-    };
-    let Some(high) = high else {
-        return None;
-    };
-    Some(TRange::span(low, high))
+    match low.zip(high) {
+        None => None,
+        Some((low, high)) => Some(TRange::span(low, high)),
+    }
 }
 
 /// A member of a set that is a range.
@@ -225,13 +223,10 @@ fn inside_node(
 ) -> Result<Option<TNode>, NoMemory>
     ensures { IfOk result (λ n. option_map node_term n ≡ shapes.inside_node (option_map expr_term left) (option_map (map range_term) set)) }
 {
-    let Some(left) = left else {
-        return Ok(None);
-    };
-    let Some(set) = set else {
-        return Ok(None);
-    };
-    Ok(Some(TNode::inside(alloc, left, set)?))
+    match left.zip(set) {
+        None => Ok(None),
+        Some((left, set)) => Ok(Some(TNode::inside(alloc, left, set)?)),
+    }
 }
 
 /// Set membership (IEEE 1800-2017, 11.4.13).
@@ -256,13 +251,10 @@ fn copies_node(
 ) -> Result<Option<TNode>, NoMemory>
     ensures { IfOk result (λ n. option_map node_term n ≡ shapes.copies_node (option_map expr_term count) (option_map (map expr_term) parts)) }
 {
-    let Some(count) = count else {
-        return Ok(None);
-    };
-    let Some(parts) = parts else {
-        return Ok(None);
-    };
-    Ok(Some(TNode::copies(alloc, count, parts)?))
+    match count.zip(parts) {
+        None => Ok(None),
+        Some((count, parts)) => Ok(Some(TNode::copies(alloc, count, parts)?)),
+    }
 }
 
 /// The bits of so many copies, where over 64 count as 65.

@@ -90,13 +90,10 @@ fn binary_node(
 ) -> Result<Option<TNode>, NoMemory>
     ensures { IfOk result (λ n. option_map node_term n ≡ shapes.both_known (term.binary op) (option_map expr_term left) (option_map expr_term right)) }
 {
-    let Some(left) = left else {
-        return Ok(None);
-    };
-    let Some(right) = right else {
-        return Ok(None);
-    };
-    Ok(Some(TNode::binary(alloc, op, left, right)?))
+    match left.zip(right) {
+        None => Ok(None),
+        Some((left, right)) => Ok(Some(TNode::binary(alloc, op, left, right)?)),
+    }
 }
 
 fn choice_node(
@@ -107,16 +104,10 @@ fn choice_node(
 ) -> Result<Option<TNode>, NoMemory>
     ensures { IfOk result (λ n. option_map node_term n ≡ shapes.all_known term.choice (option_map expr_term test) (option_map expr_term yes) (option_map expr_term no)) }
 {
-    let Some(test) = test else {
-        return Ok(None);
-    };
-    let Some(yes) = yes else {
-        return Ok(None);
-    };
-    let Some(no) = no else {
-        return Ok(None);
-    };
-    Ok(Some(TNode::choice(alloc, test, yes, no)?))
+    match test.zip(yes).zip(no) {
+        None => Ok(None),
+        Some(((test, yes), no)) => Ok(Some(TNode::choice(alloc, test, yes, no)?)),
+    }
 }
 
 /// A unary operator (IEEE 1800-2017, 11.4).

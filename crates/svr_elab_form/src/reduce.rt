@@ -42,14 +42,16 @@ pub fn reduce_part(
     ensures { IfOk result (λ p. part_of p ≡ spec.reduce_part first_one at fold (part_of array) (part_of body)) }
 {
     let fault = reduce_fault(&array, &body);
-    let shape = body.shape;
-    let node = array_node(alloc, array.form.root, fold, body.tree)?;
+    let reads = array.reads.and(body.reads).no_constant();
+    let (shape, root) = (body.shape, array.form.root);
+    drop(array);
+    let node = array_node(alloc, root, fold, body.tree)?;
     Ok(Part {
         at,
         shape,
         tree: typed_as(shape, node),
         fault,
-        reads: array.reads.and(body.reads).no_constant(),
+        reads,
         form: Form::other(at),
     })
 }

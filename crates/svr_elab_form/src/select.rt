@@ -59,13 +59,17 @@ fn element_part(alloc: Global, at: u32, base: Part, index: Part) -> Result<Part,
     ensures { IfOk result (λ p. part_of p ≡ spec.element_part first_one at (part_of base) (part_of index)) }
 {
     let random = random_at(&index);
+    let fault = earlier(base.fault, index.fault);
+    let reads = base.reads.and(index.reads).no_constant();
+    let (shape, form) = (base.shape, base.form);
+    drop(base);
     Ok(Part {
         at,
-        shape: base.shape,
-        tree: element_tree(alloc, base.form.root, index.tree)?,
-        fault: earlier(base.fault, index.fault),
-        reads: base.reads.and(index.reads).no_constant(),
-        form: base.form.indexed(Extent::Single, random),
+        shape,
+        tree: element_tree(alloc, form.root, index.tree)?,
+        fault,
+        reads,
+        form: form.indexed(Extent::Single, random),
     })
 }
 
@@ -77,13 +81,10 @@ fn bit_node(
 ) -> Result<Option<TNode>, NoMemory>
     ensures { IfOk result (λ n. option_map node_term n ≡ shapes.bit_node (option_map expr_term base) (option_map expr_term index) low) }
 {
-    let Some(base) = base else {
-        return Ok(None);
-    };
-    let Some(index) = index else {
-        return Ok(None);
-    };
-    Ok(Some(TNode::bit_select(alloc, base, index, low)?))
+    match base.zip(index) {
+        None => Ok(None),
+        Some((base, index)) => Ok(Some(TNode::bit_select(alloc, base, index, low)?)),
+    }
 }
 
 fn bit_fault(base: &Part, index: &Part) -> Option<Fault>
@@ -251,16 +252,10 @@ fn part_node(
 ) -> Result<Option<TNode>, NoMemory>
     ensures { IfOk result (λ n. option_map node_term n ≡ shapes.part_node (option_map expr_term base) (option_map expr_term first) (option_map expr_term last) low) }
 {
-    let Some(base) = base else {
-        return Ok(None);
-    };
-    let Some(first) = first else {
-        return Ok(None);
-    };
-    let Some(last) = last else {
-        return Ok(None);
-    };
-    Ok(Some(TNode::part_select(alloc, base, first, last, low)?))
+    match base.zip(first).zip(last) {
+        None => Ok(None),
+        Some(((base, first), last)) => Ok(Some(TNode::part_select(alloc, base, first, last, low)?)),
+    }
 }
 
 /// `base[first:last]`, whose bounds are constants, in order and inside the vector.

@@ -1,10 +1,11 @@
 // `dist` (IEEE 1800-2017, 18.5.4).
 
-ghost use Rattle.std.specs.Prelude.{◌≡◌, ◌||◌, IfOk, None, option_map, map};
+ghost use Rattle.std.specs.Prelude.{◌≡◌, ◌||◌, IfOk, None, Some, option_map, map};
+ghost use Rattle.svr_typed.specs.ExprTerm.{expr_term, range_term};
 ghost use Rattle.svr_typed.specs.ItemTerm.{dist_term};
 ghost use Rattle.svr_elab_fault.specs.Refusals.{first_one};
 ghost use Rattle.svr_elab_part.specs.Seen.{part_of, range_part_of};
-ghost use Rattle.svr_elab_part.specs.Shapes.{and_more};
+ghost use Rattle.svr_elab_part.specs.Shapes.{and_more, both_known};
 ghost use Rattle.svr_elab_item.specs.Items as spec;
 ghost use Rattle.svr_elab_item.specs.Seen.{dist_part, dist_at, item_part, weight_part};
 
@@ -12,10 +13,11 @@ use crate::part::{Around, DistPart, ItemPart};
 use crate::tree;
 use sqlite_items::Items;
 use svr_elab_fault::{Fault, earlier, when};
+use svr_elab_form::pushed;
 use svr_elab_part::{Part, RangePart};
 use svr_operator::Share;
 use svr_refusal::Refusal;
-use svr_typed::{NoMemory, TDistItem};
+use svr_typed::{NoMemory, TDistItem, TExpr, TRange};
 
 /// The fault of a weight, which may read no property that can be random.
 fn weight_fault(weight: &Option<(Share, Part)>) -> Option<Fault>
@@ -39,19 +41,31 @@ fn is_weight_cyclic(weight: &Option<(Share, Part)>) -> bool
     }
 }
 
+fn without_weight(range: Option<TRange>) -> Option<TDistItem>
+    ensures { option_map dist_term result ≡ option_map (λ r. record { range = r; weight = None }) (option_map range_term range) }
+{
+    match range {
+        None => None,
+        Some(range) => Some(TDistItem::new(range, None)),
+    }
+}
+
+fn with_weight(range: Option<TRange>, share: Share, weight: Option<TExpr>) -> Option<TDistItem>
+    ensures { option_map dist_term result ≡ both_known (λ r w. record { range = r; weight = Some (share, w) }) (option_map range_term range) (option_map expr_term weight) }
+{
+    match range.zip(weight) {
+        None => None,
+        Some((range, weight)) => Some(TDistItem::new(range, Some((share, weight)))),
+    }
+}
+
 fn member_tree(range: RangePart, weight: Option<(Share, Part)>) -> Option<TDistItem>
     ensures { option_map dist_term result ≡ spec.dist_member_tree first_one (range_part_of range) (option_map weight_part weight) }
 {
-    let Some(range) = range.tree else {
-        return None;
-    };
-    let Some((share, part)) = weight else {
-        return Some(TDistItem::new(range, None));
-    };
-    let Some(tree) = part.tree else {
-        return None;
-    };
-    Some(TDistItem::new(range, Some((share, tree))))
+    match weight {
+        None => without_weight(range.tree),
+        Some((share, part)) => with_weight(range.tree, share, part.tree),
+    }
 }
 
 fn and_tree(
@@ -60,14 +74,10 @@ fn and_tree(
 ) -> Result<Option<Items<TDistItem>>, NoMemory>
     ensures { IfOk result (λ r. option_map (map dist_term) r ≡ and_more (option_map (map dist_term) list) (option_map dist_term member)) }
 {
-    let Some(mut list) = list else {
-        return Ok(None);
-    };
-    let Some(member) = member else {
-        return Ok(None);
-    };
-    list.push(member)?;
-    Ok(Some(list))
+    match list.zip(member) {
+        None => Ok(None),
+        Some((list, member)) => Ok(Some(pushed(list, member)?)),
+    }
 }
 
 /// Whether the members so far or one more read a cyclic random property.

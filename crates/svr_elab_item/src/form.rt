@@ -13,7 +13,7 @@ use crate::root::{array_of, has_too_many_names, is_no_target};
 use crate::tree;
 use sqlite_items::Items;
 use svr_elab_fault::{Fault, earlier, when};
-use svr_elab_form::is_no_array;
+use svr_elab_form::{is_no_array, pushed};
 use svr_elab_part::Part;
 use svr_refusal::Refusal;
 use svr_typed::{NoMemory, TItem};
@@ -119,14 +119,10 @@ fn and_tree(
 ) -> Result<Option<Items<TItem>>, NoMemory>
     ensures { IfOk result (λ r. option_map (map item_term) r ≡ and_more (option_map (map item_term) list) (option_map item_term item)) }
 {
-    let Some(mut list) = list else {
-        return Ok(None);
-    };
-    let Some(item) = item else {
-        return Ok(None);
-    };
-    list.push(item)?;
-    Ok(Some(list))
+    match list.zip(item) {
+        None => Ok(None),
+        Some((list, item)) => Ok(Some(pushed(list, item)?)),
+    }
 }
 
 /// One more item in a set, where all are known.

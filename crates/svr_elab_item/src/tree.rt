@@ -27,13 +27,10 @@ pub(crate) fn dealt(
 ) -> Option<TItem>
     ensures { option_map item_term result ≡ spec.dist_tree soft (option_map expr_term expr) (option_map (map dist_term) dist) }
 {
-    let Some(expr) = expr else {
-        return None;
-    };
-    let Some(dist) = dist else {
-        return None;
-    };
-    Some(TItem::plain(soft, expr, Some(dist)))
+    match expr.zip(dist) {
+        None => None,
+        Some((expr, dist)) => Some(TItem::plain(soft, expr, Some(dist))),
+    }
 }
 
 pub(crate) fn unique(members: Option<Items<TExpr>>) -> Option<TItem>
@@ -48,13 +45,10 @@ pub(crate) fn unique(members: Option<Items<TExpr>>) -> Option<TItem>
 pub(crate) fn implies(test: Option<TExpr>, body: Option<Items<TItem>>) -> Option<TItem>
     ensures { option_map item_term result ≡ spec.implies_tree (option_map expr_term test) (option_map (map item_term) body) }
 {
-    let Some(test) = test else {
-        return None;
-    };
-    let Some(body) = body else {
-        return None;
-    };
-    Some(TItem::implies(test, body))
+    match test.zip(body) {
+        None => None,
+        Some((test, body)) => Some(TItem::implies(test, body)),
+    }
 }
 
 /// The items behind `else`, where they are known.
@@ -74,18 +68,12 @@ pub(crate) fn branch(
 ) -> Option<TItem>
     ensures { option_map item_term result ≡ spec.branch_tree (option_map expr_term test) (option_map (map item_term) yes) (option_map else_term no) }
 {
-    let Some(test) = test else {
-        return None;
-    };
-    let Some(yes) = yes else {
-        return None;
-    };
-    let Some(no) = no else {
-        return None;
-    };
-    match no {
-        None => Some(TItem::branch(test, yes)),
-        Some(no) => Some(TItem::branch_else(test, yes, no)),
+    match test.zip(yes).zip(no) {
+        None => None,
+        Some(((test, yes), no)) => match no {
+            None => Some(TItem::branch(test, yes)),
+            Some(no) => Some(TItem::branch_else(test, yes, no)),
+        },
     }
 }
 
@@ -120,11 +108,8 @@ pub(crate) fn disable(target: Option<TExpr>) -> Option<TItem>
 pub(crate) fn solve(first: Option<Items<TExpr>>, later: Option<Items<TExpr>>) -> Option<TItem>
     ensures { option_map item_term result ≡ spec.solve_trees (option_map (map expr_term) first) (option_map (map expr_term) later) }
 {
-    let Some(first) = first else {
-        return None;
-    };
-    let Some(later) = later else {
-        return None;
-    };
-    Some(TItem::solve(first, later))
+    match first.zip(later) {
+        None => None,
+        Some((first, later)) => Some(TItem::solve(first, later)),
+    }
 }

@@ -14,6 +14,7 @@ use crate::root::{differs, is_cyclic_root};
 use crate::tree;
 use sqlite_items::Items;
 use svr_elab_fault::{earlier, when};
+use svr_elab_form::pushed;
 use svr_elab_part::{Part, Shape};
 use svr_refusal::Refusal;
 use svr_typed::{NoMemory, TExpr};
@@ -25,14 +26,10 @@ pub(crate) fn and_expr(
 ) -> Result<Option<Items<TExpr>>, NoMemory>
     ensures { IfOk result (λ r. option_map (map expr_term) r ≡ and_more (option_map (map expr_term) list) (option_map expr_term e)) }
 {
-    let Some(mut list) = list else {
-        return Ok(None);
-    };
-    let Some(e) = e else {
-        return Ok(None);
-    };
-    list.push(e)?;
-    Ok(Some(list))
+    match list.zip(e) {
+        None => Ok(None),
+        Some((list, e)) => Ok(Some(pushed(list, e)?)),
+    }
 }
 
 fn or_else(first: Option<Option<Shape>>, shape: Option<Shape>) -> Option<Option<Shape>>

@@ -12,6 +12,7 @@ use crate::part::{StmtPart, StmtsPart};
 use sqlite_items::Items;
 use std::alloc::Global;
 use svr_elab_fault::earlier;
+use svr_elab_form::pushed;
 use svr_elab_type::{Constant, elements};
 use svr_typed::{NoMemory, TStmt};
 
@@ -46,13 +47,10 @@ fn repeat(
 ) -> Result<Option<TStmt>, NoMemory>
     ensures { IfOk result (λ t. option_map stmt_term t ≡ spec.repeat_tree count (option_map stmt_term body)) }
 {
-    let Some(count) = count else {
-        return Ok(None);
-    };
-    let Some(body) = body else {
-        return Ok(None);
-    };
-    Ok(Some(TStmt::repeat(alloc, elements(count), body)?))
+    match count.zip(body) {
+        None => Ok(None),
+        Some((count, body)) => Ok(Some(TStmt::repeat(alloc, elements(count), body)?)),
+    }
 }
 
 #[tactic(auto, using(crate::proofs::Forms::product_fits, crate::proofs::Forms::product_small))]
@@ -134,14 +132,10 @@ fn and_tree(
 ) -> Result<Option<Items<TStmt>>, NoMemory>
     ensures { IfOk result (λ r. option_map (map stmt_term) r ≡ and_more (option_map (map stmt_term) trees) (option_map stmt_term tree)) }
 {
-    let Some(mut trees) = trees else {
-        return Ok(None);
-    };
-    let Some(tree) = tree else {
-        return Ok(None);
-    };
-    trees.push(tree)?;
-    Ok(Some(trees))
+    match trees.zip(tree) {
+        None => Ok(None),
+        Some((trees, tree)) => Ok(Some(pushed(trees, tree)?)),
+    }
 }
 
 /// One more statement behind others.

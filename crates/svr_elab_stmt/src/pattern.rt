@@ -18,6 +18,7 @@ use sqlite_items::Items;
 use std::alloc::Global;
 use svr_elab_expr::value;
 use svr_elab_fault::{earlier, when};
+use svr_elab_form::pushed;
 use svr_elab_names::NameSpace;
 use svr_elab_part::Part;
 use svr_refusal::Refusal;
@@ -27,14 +28,10 @@ use svr_typed::{NoMemory, TExpr};
 fn and_expr(list: Option<Items<TExpr>>, e: Option<TExpr>) -> Result<Option<Items<TExpr>>, NoMemory>
     ensures { IfOk result (λ r. option_map (map expr_term) r ≡ and_more (option_map (map expr_term) list) (option_map expr_term e)) }
 {
-    let Some(mut list) = list else {
-        return Ok(None);
-    };
-    let Some(e) = e else {
-        return Ok(None);
-    };
-    list.push(e)?;
-    Ok(Some(list))
+    match list.zip(e) {
+        None => Ok(None),
+        Some((list, e)) => Ok(Some(pushed(list, e)?)),
+    }
 }
 
 /// One more value. `members`: the enum of the elements.

@@ -85,12 +85,9 @@ fn set_place(
 ) -> Option<TStmt>
     ensures { option_map stmt_term result ≡ both_known (spec.set_property object property) (option_map expr_term place) (option_map expr_term value) }
 {
-    let Some(place) = place else {
-        return None;
-    };
-    match value {
+    match place.zip(value) {
         None => None,
-        Some(value) => Some(set_property(object, property, place, value)),
+        Some((place, value)) => Some(set_property(object, property, place, value)),
     }
 }
 

@@ -9,6 +9,7 @@ ghost use Rattle.svr_expr.specs.ExprRules as spec;
 ghost use Rattle.svr_expr.specs.Connectives as connectives;
 ghost use Rattle.svr_expr.specs.Parts.{Nests};
 
+use crate::beside::{enter_beside, expect_beside};
 use crate::connective::{
     Connective, connective_level, connective_of, goes_on, least_right, precedence,
 };
@@ -36,7 +37,11 @@ impl<F: Fn(Global, &mut Cursor<'_>, usize, u8) -> Result<(Expr, usize), ReadFaul
         ensures gives { Gives (height_view expr_tree) (spec.within cap self.now.room (spec.binary_on at (height_view expr_tree (left, height)) op) cursor.old) result cursor.new }
         ensures low { IfOk result (λ x. x.1 ≤ self.now.room + 1) }
     {
-        let (right, right_height) = self.part(cursor, least_right(precedence(op)))?;
+        let (left, right, right_height) = self.part_beside(
+            cursor,
+            left,
+            least_right(precedence(op)),
+        )?;
         let whole = Expr::binary(self.alloc, at, op, left, right)?;
         Ok((whole, height.max(right_height) + 1))
     }
@@ -56,9 +61,13 @@ impl<F: Fn(Global, &mut Cursor<'_>, usize, u8) -> Result<(Expr, usize), ReadFaul
         ensures gives { Gives (height_view expr_tree) (spec.within cap self.now.room (spec.choice_on at (height_view expr_tree (test, height))) cursor.old) result cursor.new }
         ensures low { IfOk result (λ x. x.1 ≤ self.now.room + 1) }
     {
-        let (yes, yes_height) = self.part(cursor, level::IMPLICATION)?;
-        cursor.expect(Fixed::Mark(Mark::Colon))?;
-        let (no, no_height) = self.part(cursor, level::CONDITIONAL)?;
+        let (test, yes, yes_height) = self.part_beside(cursor, test, level::IMPLICATION)?;
+        let (test, yes) = expect_beside(cursor, (test, yes), Fixed::Mark(Mark::Colon))?;
+        let ((test, yes), no, no_height) = self.part_beside(
+            cursor,
+            (test, yes),
+            level::CONDITIONAL,
+        )?;
         let whole = Expr::choice(self.alloc, at, test, yes, no)?;
         Ok((whole, height.max(yes_height).max(no_height) + 1))
     }
@@ -78,9 +87,13 @@ impl<F: Fn(Global, &mut Cursor<'_>, usize, u8) -> Result<(Expr, usize), ReadFaul
         ensures gives { Gives (height_view expr_tree) (spec.within cap self.now.room (spec.inside_on at (height_view expr_tree (left, height))) cursor.old) result cursor.new }
         ensures low { IfOk result (λ x. x.1 ≤ self.now.room + 1) }
     {
-        cursor.expect(Fixed::Mark(Mark::OpenBrace))?;
-        let (members, members_height) = self.ranges(cursor)?;
-        cursor.expect(Fixed::Mark(Mark::CloseBrace))?;
+        let left = expect_beside(cursor, left, Fixed::Mark(Mark::OpenBrace))?;
+        let (left, members, members_height) = self.ranges_beside(cursor, left)?;
+        let (left, members) = expect_beside(
+            cursor,
+            (left, members),
+            Fixed::Mark(Mark::CloseBrace),
+        )?;
         let whole = Expr::inside(self.alloc, at, left, members)?;
         Ok((whole, height.max(members_height) + 1))
     }
@@ -101,7 +114,7 @@ impl<F: Fn(Global, &mut Cursor<'_>, usize, u8) -> Result<(Expr, usize), ReadFaul
         ensures gives { Gives (height_view expr_tree) (spec.within cap self.now.room (spec.extend at (height_view expr_tree (left, height)) connective) cursor.old) result cursor.new }
         ensures low { IfOk result (λ x. x.1 ≤ self.now.room + 1) }
     {
-        cursor.enter(self.room, height)?;
+        let (left, _) = enter_beside(cursor, left, self.room, height)?;
         match connective {
             Connective::Binary(op) => self.binary_on(cursor, at, left, height, op),
             Connective::Choice => self.choice_on(cursor, at, left, height),

@@ -5,6 +5,7 @@
 //! What crates above cite: `specs/ExprRules.antt`, and `proofs/Anywhere.antt`, by which names and paths come to the same in the programs of other constructs.
 #![tactic(auto)]
 
+mod beside;
 mod climb;
 mod connective;
 mod lists;
@@ -15,6 +16,7 @@ mod reader;
 mod reduce;
 mod suffix;
 
+pub use beside::{enter_beside, expect_beside, take_beside};
 pub use connective::{Connective, connective_of, unary_of};
 pub use names::{known_path, path_on, starts_path};
 pub use node::{

@@ -1,6 +1,6 @@
 // Lists and ranges of expressions (IEEE 1800-2017, A.8.1 and A.8.3).
 
-ghost use Rattle.std.specs.Prelude.{◌≡◌, ◌≤◌, IfOk};
+ghost use Rattle.std.specs.Prelude.{◌≡◌, ◌≤◌, map, IfOk};
 ghost use Rattle.svr_tree.specs.ExprTree.{expr_tree, range_tree, bound_tree};
 ghost use Rattle.svr_tree.specs.Operators.{implication_level};
 ghost use Rattle.svr_reader.specs.Answers.{Gives};
@@ -10,6 +10,7 @@ ghost use Rattle.svr_reader.specs.Lists.{listing_on as listing_program};
 ghost use Rattle.svr_expr.specs.ExprRules as spec;
 ghost use Rattle.svr_expr.specs.Parts.{Nests};
 
+use crate::beside::expect_beside;
 use crate::reader::Reader;
 use sqlite_items::Items;
 use std::alloc::Global;
@@ -52,6 +53,21 @@ impl<F: Fn(Global, &mut Cursor<'_>, usize, u8) -> Result<(Expr, usize), ReadFaul
         )
     }
 
+    /// Expressions with commas between them, beside what was read before.
+    pub fn exprs_beside<T: Drop>(
+        &self,
+        cursor: &mut Cursor<'_>,
+        held: T,
+    ) -> Result<(T, Items<Expr>, usize), ReadFault>
+        requires nests { Nests self.now.room (F.pre self.now.expr) (F.post self.now.expr) }
+        ensures gives { Gives (λ x. (map expr_tree x.1, x.2)) (spec.within cap self.now.room spec.exprs cursor.old) result cursor.new }
+        ensures same { IfOk result (λ x. x.0 ≡ held) }
+        ensures low { IfOk result (λ x. x.2 ≤ self.now.room) }
+    {
+        let (found, height) = self.exprs(cursor)?;
+        Ok((held, found, height))
+    }
+
     /// A bound of a range.
     #[tactic(auto, unfolding(crate::specs::ExprRules::bound))]
     fn bound(&self, cursor: &mut Cursor<'_>) -> Result<(Bound, usize), ReadFault>
@@ -71,6 +87,21 @@ impl<F: Fn(Global, &mut Cursor<'_>, usize, u8) -> Result<(Expr, usize), ReadFaul
         }
     }
 
+    /// The same beside what was read before.
+    fn bound_beside<T: Drop>(
+        &self,
+        cursor: &mut Cursor<'_>,
+        held: T,
+    ) -> Result<(T, Bound, usize), ReadFault>
+        requires nests { Nests self.now.room (F.pre self.now.expr) (F.post self.now.expr) }
+        ensures gives { Gives (λ x. (bound_tree x.1, x.2)) (spec.within cap self.now.room spec.bound cursor.old) result cursor.new }
+        ensures same { IfOk result (λ x. x.0 ≡ held) }
+        ensures low { IfOk result (λ x. x.2 ≤ self.now.room) }
+    {
+        let (found, height) = self.bound(cursor)?;
+        Ok((held, found, height))
+    }
+
     /// Two bounds, behind their bracket.
     #[tactic(auto, unfolding(crate::specs::ExprRules::span_on))]
     fn span_on(&self, cursor: &mut Cursor<'_>) -> Result<(Range, usize), ReadFault>
@@ -79,9 +110,9 @@ impl<F: Fn(Global, &mut Cursor<'_>, usize, u8) -> Result<(Expr, usize), ReadFaul
         ensures low { IfOk result (λ x. x.1 ≤ self.now.room) }
     {
         let (low, low_height) = self.bound(cursor)?;
-        cursor.expect(Fixed::Mark(Mark::Colon))?;
-        let (high, high_height) = self.bound(cursor)?;
-        cursor.expect(Fixed::Mark(Mark::CloseBracket))?;
+        let low = expect_beside(cursor, low, Fixed::Mark(Mark::Colon))?;
+        let (low, high, high_height) = self.bound_beside(cursor, low)?;
+        let (low, high) = expect_beside(cursor, (low, high), Fixed::Mark(Mark::CloseBracket))?;
         Ok((Range::span(low, high), low_height.max(high_height)))
     }
 
@@ -112,5 +143,20 @@ impl<F: Fn(Global, &mut Cursor<'_>, usize, u8) -> Result<(Expr, usize), ReadFaul
         ensures low { IfOk result (λ x. x.1 ≤ self.now.room) }
     {
         listing(self.alloc, cursor, |cursor| self.range(cursor))
+    }
+
+    /// The same beside what was read before.
+    pub fn ranges_beside<T: Drop>(
+        &self,
+        cursor: &mut Cursor<'_>,
+        held: T,
+    ) -> Result<(T, Items<Range>, usize), ReadFault>
+        requires nests { Nests self.now.room (F.pre self.now.expr) (F.post self.now.expr) }
+        ensures gives { Gives (λ x. (map range_tree x.1, x.2)) (spec.within cap self.now.room spec.ranges cursor.old) result cursor.new }
+        ensures same { IfOk result (λ x. x.0 ≡ held) }
+        ensures low { IfOk result (λ x. x.2 ≤ self.now.room) }
+    {
+        let (found, height) = self.ranges(cursor)?;
+        Ok((held, found, height))
     }
 }

@@ -7,6 +7,7 @@ ghost use Rattle.svr_reader.specs.Calls.{cap, height_view, heights_view};
 ghost use Rattle.svr_expr.specs.ExprRules as spec;
 ghost use Rattle.svr_expr.specs.Parts.{Nests};
 
+use crate::beside::expect_beside;
 use crate::connective::unary_of;
 use crate::reader::Reader;
 use sqlite_items::Items;
@@ -43,7 +44,7 @@ impl<F: Fn(Global, &mut Cursor<'_>, usize, u8) -> Result<(Expr, usize), ReadFaul
     {
         let at = cursor.enter(self.room, 1)?;
         let (arg, height) = self.part(cursor, level::IMPLICATION)?;
-        cursor.expect(Fixed::Mark(Mark::CloseParen))?;
+        let arg = expect_beside(cursor, arg, Fixed::Mark(Mark::CloseParen))?;
         Ok((Expr::paren(self.alloc, at, arg)?, height + 1))
     }
 
@@ -62,7 +63,7 @@ impl<F: Fn(Global, &mut Cursor<'_>, usize, u8) -> Result<(Expr, usize), ReadFaul
         let at = cursor.enter(self.room, 1)?;
         cursor.expect(Fixed::Mark(Mark::OpenParen))?;
         let (arg, height) = self.part(cursor, level::IMPLICATION)?;
-        cursor.expect(Fixed::Mark(Mark::CloseParen))?;
+        let arg = expect_beside(cursor, arg, Fixed::Mark(Mark::CloseParen))?;
         let signed = is_signed(function);
         Ok((Expr::sign(self.alloc, at, signed, arg)?, height + 1))
     }
@@ -82,9 +83,9 @@ impl<F: Fn(Global, &mut Cursor<'_>, usize, u8) -> Result<(Expr, usize), ReadFaul
         ensures gives { Gives (height_view expr_tree) (spec.within cap self.now.room (spec.copies_on at (height_view expr_tree (count, count_height))) cursor.old) result cursor.new }
         ensures low { IfOk result (λ x. x.1 ≤ self.now.room + 1) }
     {
-        let (parts, height) = self.exprs(cursor)?;
-        cursor.expect(Fixed::Mark(Mark::CloseBrace))?;
-        cursor.expect(Fixed::Mark(Mark::CloseBrace))?;
+        let (count, parts, height) = self.exprs_beside(cursor, count)?;
+        let (count, parts) = expect_beside(cursor, (count, parts), Fixed::Mark(Mark::CloseBrace))?;
+        let (count, parts) = expect_beside(cursor, (count, parts), Fixed::Mark(Mark::CloseBrace))?;
         let whole = Expr::copies(self.alloc, at, count, parts)?;
         Ok((whole, count_height.max(height) + 1))
     }
@@ -103,7 +104,7 @@ impl<F: Fn(Global, &mut Cursor<'_>, usize, u8) -> Result<(Expr, usize), ReadFaul
         ensures gives { Gives (height_view expr_tree) (spec.within cap self.now.room (spec.join_on at (heights_view expr_tree (parts, height))) cursor.old) result cursor.new }
         ensures low { IfOk result (λ x. x.1 ≤ self.now.room + 1) }
     {
-        cursor.expect(Fixed::Mark(Mark::CloseBrace))?;
+        let parts = expect_beside(cursor, parts, Fixed::Mark(Mark::CloseBrace))?;
         Ok((Expr::join(at, parts), height + 1))
     }
 

@@ -8,6 +8,7 @@ ghost use Rattle.svr_reader.specs.Program.{bind, peek};
 ghost use Rattle.svr_expr.specs.ExprRules as spec;
 ghost use Rattle.svr_expr.specs.Parts.{Nests, kind_view};
 
+use crate::beside::{enter_beside, expect_beside, take_beside};
 use crate::names::any_path;
 use crate::reader::Reader;
 use crate::suffix::with_parens;
@@ -81,9 +82,9 @@ impl<F: Fn(Global, &mut Cursor<'_>, usize, u8) -> Result<(Expr, usize), ReadFaul
         ensures gives { Gives (height_view expr_tree) (spec.within cap self.now.room (spec.body_in_parens at (expr_tree array) op item) cursor.old) result cursor.new }
         ensures low { IfOk result (λ x. x.1 ≤ self.now.room + 1) }
     {
-        cursor.expect(Fixed::Mark(Mark::OpenParen))?;
-        let (body, height) = self.part(cursor, level::IMPLICATION)?;
-        cursor.expect(Fixed::Mark(Mark::CloseParen))?;
+        let array = expect_beside(cursor, array, Fixed::Mark(Mark::OpenParen))?;
+        let (array, body, height) = self.part_beside(cursor, array, level::IMPLICATION)?;
+        let (array, body) = expect_beside(cursor, (array, body), Fixed::Mark(Mark::CloseParen))?;
         let whole = Expr::reduce(self.alloc, at, array, op, item, body)?;
         Ok((whole, 1usize.max(height) + 1))
     }
@@ -103,7 +104,7 @@ impl<F: Fn(Global, &mut Cursor<'_>, usize, u8) -> Result<(Expr, usize), ReadFaul
         ensures gives { Gives (height_view expr_tree) (spec.within cap self.now.room (spec.body_on at (expr_tree array) op item) cursor.old) result cursor.new }
         ensures low { IfOk result (λ x. x.1 ≤ self.now.room + 1) }
     {
-        cursor.enter(self.room, 1)?;
+        let (array, _) = enter_beside(cursor, array, self.room, 1)?;
         self.body_in_parens(cursor, at, array, op, item)
     }
 
@@ -121,9 +122,9 @@ impl<F: Fn(Global, &mut Cursor<'_>, usize, u8) -> Result<(Expr, usize), ReadFaul
         ensures gives { Gives (height_view expr_tree) (spec.within cap self.now.room (spec.argument_on at (expr_tree path) op) cursor.old) result cursor.new }
         ensures low { IfOk result (λ x. x.1 ≤ self.now.room + 1) }
     {
-        let name = cursor.enter(self.room, 1)?;
-        cursor.expect(Fixed::Mark(Mark::CloseParen))?;
-        cursor.expect(Fixed::Word(Word::With))?;
+        let (path, name) = enter_beside(cursor, path, self.room, 1)?;
+        let path = expect_beside(cursor, path, Fixed::Mark(Mark::CloseParen))?;
+        let path = expect_beside(cursor, path, Fixed::Word(Word::With))?;
         self.body_in_parens(cursor, at, owner(path), op, IteratorArgument::Named(name))
     }
 
@@ -164,7 +165,7 @@ impl<F: Fn(Global, &mut Cursor<'_>, usize, u8) -> Result<(Expr, usize), ReadFaul
         match cursor.peek() {
             Some(Lexeme::Name(_)) => self.argument_on(cursor, at, path, op),
             _ => {
-                cursor.expect(Fixed::Mark(Mark::CloseParen))?;
+                let path = expect_beside(cursor, path, Fixed::Mark(Mark::CloseParen))?;
                 self.behind_parens(cursor, at, path, op)
             }
         }
@@ -188,7 +189,7 @@ impl<F: Fn(Global, &mut Cursor<'_>, usize, u8) -> Result<(Expr, usize), ReadFaul
                 self.body_on(cursor, at, owner(path), op, IteratorArgument::Absent)
             }
             Some(Lexeme::Mark(Mark::OpenParen)) => {
-                cursor.take()?;
+                let (path, _) = take_beside(cursor, path)?;
                 self.behind_paren(cursor, at, path, op)
             }
             _ => self.with_suffixes(cursor, at, path, 1),

@@ -8,6 +8,7 @@ ghost use Rattle.svr_reader.specs.Program.{loop};
 ghost use Rattle.svr_expr.specs.ExprRules as spec;
 ghost use Rattle.svr_expr.specs.Parts.{Nests, last_of};
 
+use crate::beside::{enter_beside, expect_beside, take_beside};
 use crate::names::any_path;
 use crate::reader::Reader;
 use std::alloc::Global;
@@ -65,8 +66,8 @@ impl<F: Fn(Global, &mut Cursor<'_>, usize, u8) -> Result<(Expr, usize), ReadFaul
         ensures gives { Gives (height_view expr_tree) (spec.within cap self.now.room (spec.parens_on (height_view expr_tree (base, height))) cursor.old) result cursor.new }
         ensures low { IfOk result (λ x. x.1 ≡ height) }
     {
-        cursor.take()?;
-        cursor.expect(Fixed::Mark(Mark::CloseParen))?;
+        let (base, _) = take_beside(cursor, base)?;
+        let base = expect_beside(cursor, base, Fixed::Mark(Mark::CloseParen))?;
         Ok((with_parens(base), height))
     }
 
@@ -85,13 +86,11 @@ impl<F: Fn(Global, &mut Cursor<'_>, usize, u8) -> Result<(Expr, usize), ReadFaul
         ensures gives { Gives (height_view expr_tree) (spec.within cap self.now.room (spec.index_on at (height_view expr_tree (base, height))) cursor.old) result cursor.new }
         ensures low { IfOk result (λ x. x.1 ≤ self.now.room + 1) }
     {
-        cursor.enter(self.room, height)?;
-        let (index, index_height) = self.part(cursor, level::IMPLICATION)?;
-        cursor.expect(Fixed::Mark(Mark::CloseBracket))?;
-        Ok((
-            Expr::bit_select(self.alloc, at, base, index, false)?,
-            height.max(index_height) + 1,
-        ))
+        let (base, _) = enter_beside(cursor, base, self.room, height)?;
+        let (base, index, index_height) = self.part_beside(cursor, base, level::IMPLICATION)?;
+        let (base, index) = expect_beside(cursor, (base, index), Fixed::Mark(Mark::CloseBracket))?;
+        let whole = Expr::bit_select(self.alloc, at, base, index, false)?;
+        Ok((whole, height.max(index_height) + 1))
     }
 
     /// The indices behind a path that begins at this token.
@@ -150,8 +149,16 @@ impl<F: Fn(Global, &mut Cursor<'_>, usize, u8) -> Result<(Expr, usize), ReadFaul
         ensures gives { Gives (height_view expr_tree) (spec.within cap self.now.room (last_of at (expr_tree base) (expr_tree first) height) cursor.old) result cursor.new }
         ensures low { IfOk result (λ x. x.1 ≤ self.now.room + 1) }
     {
-        let (last, last_height) = self.part(cursor, level::IMPLICATION)?;
-        cursor.expect(Fixed::Mark(Mark::CloseBracket))?;
+        let ((base, first), last, last_height) = self.part_beside(
+            cursor,
+            (base, first),
+            level::IMPLICATION,
+        )?;
+        let (base, first, last) = expect_beside(
+            cursor,
+            (base, first, last),
+            Fixed::Mark(Mark::CloseBracket),
+        )?;
         let whole = Expr::part_select(self.alloc, at, base, first, last, false)?;
         Ok((whole, height.max(last_height) + 1))
     }
@@ -171,13 +178,13 @@ impl<F: Fn(Global, &mut Cursor<'_>, usize, u8) -> Result<(Expr, usize), ReadFaul
         ensures gives { Gives (height_view expr_tree) (spec.within cap self.now.room (spec.select_on at (height_view expr_tree (base, height))) cursor.old) result cursor.new }
         ensures low { IfOk result (λ x. x.1 ≤ self.now.room + 1) }
     {
-        cursor.enter(self.room, height)?;
-        let (first, first_height) = self.part(cursor, level::IMPLICATION)?;
+        let (base, _) = enter_beside(cursor, base, self.room, height)?;
+        let (base, first, first_height) = self.part_beside(cursor, base, level::IMPLICATION)?;
         let height = height.max(first_height);
         if cursor.eat(Fixed::Mark(Mark::Colon)) {
             return self.part_select_on(cursor, at, base, first, height);
         }
-        cursor.expect(Fixed::Mark(Mark::CloseBracket))?;
+        let (base, first) = expect_beside(cursor, (base, first), Fixed::Mark(Mark::CloseBracket))?;
         let whole = Expr::bit_select(self.alloc, at, base, first, false)?;
         Ok((whole, height + 1))
     }

@@ -6,8 +6,9 @@ ghost use Rattle.svr_reader.specs.Calls.{cap, height_view, heights_view};
 ghost use Rattle.svr_reader.specs.Lists as lists;
 ghost use Rattle.svr_tree.specs.ItemTree.{dist_item_tree};
 ghost use Rattle.svr_item.specs.ItemRules as spec;
-ghost use Rattle.svr_item.specs.Parts.{weight_view, dist_view};
+ghost use Rattle.svr_item.specs.Parts.{Behind, weight_view, dist_view};
 
+use crate::behind::ended;
 use crate::reader::Reader;
 use sqlite_items::Items;
 use std::alloc::Global;
@@ -45,13 +46,28 @@ impl<F: Fn(Global, &mut Cursor<'_>, usize) -> Result<(Item, usize), ReadFault>> 
         }
     }
 
+    /// A weight behind what was found.
+    fn weight_behind<T: Drop>(
+        &self,
+        cursor: &mut Cursor<'_>,
+        found: T,
+    ) -> Result<(T, (Option<(Share, Expr)>, usize)), ReadFault>
+        ensures gives { Behind found (height_view weight_view) (spec.within cap self.now.room spec.weight cursor.old) result cursor.new }
+        ensures low { IfOk result (λ x. x.1.1 ≤ self.now.room) }
+    {
+        match self.weight(cursor) {
+            Ok(weight) => Ok((found, weight)),
+            Err(fault) => Err(fault),
+        }
+    }
+
     #[tactic(auto, unfolding(crate::specs::ItemRules::dist_item))]
     fn dist_item(&self, cursor: &mut Cursor<'_>) -> Result<(DistItem, usize), ReadFault>
         ensures gives { Gives (height_view dist_item_tree) (spec.within cap self.now.room spec.dist_item cursor.old) result cursor.new }
         ensures low { IfOk result (λ x. x.1 ≤ self.now.room) }
     {
         let (range, range_height) = range(self.alloc, cursor, self.room)?;
-        let (weight, weight_height) = self.weight(cursor)?;
+        let (range, (weight, weight_height)) = self.weight_behind(cursor, range)?;
         Ok((
             DistItem::new(range, weight),
             range_height.max(weight_height),
@@ -75,19 +91,34 @@ impl<F: Fn(Global, &mut Cursor<'_>, usize) -> Result<(Item, usize), ReadFault>> 
         let at = cursor.take()?;
         cursor.expect(Fixed::Mark(Mark::OpenBrace))?;
         let (items, height) = self.dist_items(cursor)?;
-        cursor.expect(Fixed::Mark(Mark::CloseBrace))?;
-        Ok((Some(Dist::new(at, items)), height))
+        let dist = ended(cursor, Dist::new(at, items), Fixed::Mark(Mark::CloseBrace))?;
+        Ok((Some(dist), height))
     }
 
     /// `dist` and its members, where `dist` comes next.
     #[tactic(auto, unfolding(crate::specs::ItemRules::dist))]
-    pub fn dist(&self, cursor: &mut Cursor<'_>) -> Result<(Option<Dist>, usize), ReadFault>
+    fn dist(&self, cursor: &mut Cursor<'_>) -> Result<(Option<Dist>, usize), ReadFault>
         ensures gives { Gives (height_view dist_view) (spec.within cap self.now.room spec.dist cursor.old) result cursor.new }
         ensures low { IfOk result (λ x. x.1 ≤ self.now.room) }
     {
         match cursor.peek() {
             Some(Lexeme::Word(Word::Dist)) => self.dist_on(cursor),
             _ => Ok((None, 0)),
+        }
+    }
+
+    /// `dist` and its members behind what was found.
+    pub fn dist_behind<T: Drop>(
+        &self,
+        cursor: &mut Cursor<'_>,
+        found: T,
+    ) -> Result<(T, (Option<Dist>, usize)), ReadFault>
+        ensures gives { Behind found (height_view dist_view) (spec.within cap self.now.room spec.dist cursor.old) result cursor.new }
+        ensures low { IfOk result (λ x. x.1.1 ≤ self.now.room) }
+    {
+        match self.dist(cursor) {
+            Ok(dist) => Ok((found, dist)),
+            Err(fault) => Err(fault),
         }
     }
 }

@@ -8,6 +8,7 @@ ghost use Rattle.svr_tree.specs.ItemTree.{item_tree};
 ghost use Rattle.svr_item.specs.ItemRules as spec;
 ghost use Rattle.svr_item.specs.Parts.{ReadsItems};
 
+use crate::behind::{ended, take_behind};
 use crate::reader::Reader;
 use std::alloc::Global;
 use svr_expr::{expr, rest_of_operand};
@@ -31,12 +32,10 @@ impl<F: Fn(Global, &mut Cursor<'_>, usize) -> Result<(Item, usize), ReadFault>> 
         ensures gives { Gives (height_view item_tree) (spec.within cap self.now.room (spec.plain_on at soft (height_view expr_tree (expr, height))) cursor.old) result cursor.new }
         ensures low { IfOk result (λ x. x.1 ≤ self.now.room + 1) }
     {
-        let (dist, dist_height) = self.dist(cursor)?;
-        cursor.expect(Fixed::Mark(Mark::Semicolon))?;
-        Ok((
-            Item::plain(at, soft, expr, dist),
-            height.max(dist_height) + 1,
-        ))
+        let (expr, (dist, dist_height)) = self.dist_behind(cursor, expr)?;
+        let item = Item::plain(at, soft, expr, dist);
+        let item = ended(cursor, item, Fixed::Mark(Mark::Semicolon))?;
+        Ok((item, height.max(dist_height) + 1))
     }
 
     /// `<->` and an expression, behind the left operand.
@@ -57,8 +56,9 @@ impl<F: Fn(Global, &mut Cursor<'_>, usize) -> Result<(Item, usize), ReadFault>> 
         let (whole, whole_height) = rest_of_operand(
             self.alloc, cursor, self.room, at, left, height,
         )?;
-        cursor.expect(Fixed::Mark(Mark::Semicolon))?;
-        Ok((Item::plain(at, false, whole, None), whole_height + 1))
+        let item = Item::plain(at, false, whole, None);
+        let item = ended(cursor, item, Fixed::Mark(Mark::Semicolon))?;
+        Ok((item, whole_height + 1))
     }
 
     /// `->` and a set, behind the test.
@@ -76,8 +76,8 @@ impl<F: Fn(Global, &mut Cursor<'_>, usize) -> Result<(Item, usize), ReadFault>> 
         ensures gives { Gives (height_view item_tree) (spec.within cap self.now.room (spec.implies_on at (height_view expr_tree (test, height))) cursor.old) result cursor.new }
         ensures low { IfOk result (λ x. x.1 ≤ self.now.room + 1) }
     {
-        cursor.take()?;
-        let (body, body_height) = self.set(cursor)?;
+        let (test, _) = take_behind(cursor, test)?;
+        let (test, (body, body_height)) = self.set_behind(cursor, test)?;
         Ok((Item::implies(at, test, body), height.max(body_height) + 1))
     }
 

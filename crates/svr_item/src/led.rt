@@ -10,8 +10,9 @@ ghost use Rattle.svr_tree.specs.ItemTree as tree;
 ghost use Rattle.svr_tree.specs.ItemTree.{item_tree, set_tree};
 ghost use Rattle.svr_expr.specs.ExprRules.{a_path, a_member};
 ghost use Rattle.svr_item.specs.ItemRules as spec;
-ghost use Rattle.svr_item.specs.Parts.{ReadsItems, else_view};
+ghost use Rattle.svr_item.specs.Parts.{Behind, ReadsItems, else_view};
 
+use crate::behind::{ended, named, pushed};
 use crate::reader::Reader;
 use sqlite_items::Items;
 use std::alloc::Global;
@@ -55,6 +56,21 @@ impl<F: Fn(Global, &mut Cursor<'_>, usize) -> Result<(Item, usize), ReadFault>> 
         )
     }
 
+    /// Paths with commas between them, behind what was found.
+    fn paths_behind<T: Drop>(
+        &self,
+        cursor: &mut Cursor<'_>,
+        found: T,
+    ) -> Result<(T, (Items<Expr>, usize)), ReadFault>
+        ensures gives { Behind found (heights_view expr_tree) (spec.within cap self.now.room (lists.listing (call (spec.a_node a_path))) cursor.old) result cursor.new }
+        ensures low { IfOk result (λ x. x.1.1 ≤ self.now.room) }
+    {
+        match self.paths(cursor) {
+            Ok(paths) => Ok((found, paths)),
+            Err(fault) => Err(fault),
+        }
+    }
+
     /// Paths with indices, with commas between them.
     fn members(&self, cursor: &mut Cursor<'_>) -> Result<(Items<Expr>, usize), ReadFault>
         ensures gives { Gives (heights_view expr_tree) (spec.within cap self.now.room (lists.listing (call (spec.a_node a_member))) cursor.old) result cursor.new }
@@ -77,9 +93,13 @@ impl<F: Fn(Global, &mut Cursor<'_>, usize) -> Result<(Item, usize), ReadFault>> 
         let at = cursor.enter(self.room, 1)?;
         cursor.expect(Fixed::Mark(Mark::OpenBrace))?;
         let (members, height) = self.members(cursor)?;
-        cursor.expect(Fixed::Mark(Mark::CloseBrace))?;
-        cursor.expect(Fixed::Mark(Mark::Semicolon))?;
-        Ok((Item::unique(at, members), height + 1))
+        let members = ended(cursor, members, Fixed::Mark(Mark::CloseBrace))?;
+        let item = ended(
+            cursor,
+            Item::unique(at, members),
+            Fixed::Mark(Mark::Semicolon),
+        )?;
+        Ok((item, height + 1))
     }
 
     /// `disable soft target;`
@@ -92,8 +112,9 @@ impl<F: Fn(Global, &mut Cursor<'_>, usize) -> Result<(Item, usize), ReadFault>> 
         let at = cursor.enter(self.room, 1)?;
         cursor.expect(Fixed::Word(Word::Soft))?;
         let (target, height) = member(self.alloc, cursor, self.room)?;
-        cursor.expect(Fixed::Mark(Mark::Semicolon))?;
-        Ok((Item::disable(at, target), height + 1))
+        let item = Item::disable(at, target);
+        let item = ended(cursor, item, Fixed::Mark(Mark::Semicolon))?;
+        Ok((item, height + 1))
     }
 
     /// `solve first before later;`
@@ -105,13 +126,11 @@ impl<F: Fn(Global, &mut Cursor<'_>, usize) -> Result<(Item, usize), ReadFault>> 
     {
         let at = cursor.enter(self.room, 1)?;
         let (first, first_height) = self.paths(cursor)?;
-        cursor.expect(Fixed::Word(Word::Before))?;
-        let (later, later_height) = self.paths(cursor)?;
-        cursor.expect(Fixed::Mark(Mark::Semicolon))?;
-        Ok((
-            Item::solve(at, first, later),
-            first_height.max(later_height) + 1,
-        ))
+        let first = ended(cursor, first, Fixed::Word(Word::Before))?;
+        let (first, (later, later_height)) = self.paths_behind(cursor, first)?;
+        let item = Item::solve(at, first, later);
+        let item = ended(cursor, item, Fixed::Mark(Mark::Semicolon))?;
+        Ok((item, first_height.max(later_height) + 1))
     }
 
     /// `if (test) set [else set]`
@@ -125,9 +144,9 @@ impl<F: Fn(Global, &mut Cursor<'_>, usize) -> Result<(Item, usize), ReadFault>> 
         let at = cursor.enter(self.room, 1)?;
         cursor.expect(Fixed::Mark(Mark::OpenParen))?;
         let (test, test_height) = expr(self.alloc, cursor, self.room, level::IMPLICATION)?;
-        cursor.expect(Fixed::Mark(Mark::CloseParen))?;
-        let (yes, yes_height) = self.set(cursor)?;
-        let (no, no_height) = self.otherwise(cursor)?;
+        let test = ended(cursor, test, Fixed::Mark(Mark::CloseParen))?;
+        let (test, (yes, yes_height)) = self.set_behind(cursor, test)?;
+        let ((test, yes), (no, no_height)) = self.otherwise_behind(cursor, (test, yes))?;
         Ok((
             branch(at, test, yes, no),
             test_height.max(yes_height).max(no_height) + 1,
@@ -140,14 +159,26 @@ impl<F: Fn(Global, &mut Cursor<'_>, usize) -> Result<(Item, usize), ReadFault>> 
         ensures { Gives (λ vars. vars) (spec.within cap self.now.room spec.loop_vars cursor.old) result cursor.new }
     {
         let first = cursor.name()?;
-        let mut vars = Items::new(self.alloc);
-        vars.push(first)?;
+        let vars = pushed(Items::new(self.alloc), first)?;
         if cursor.eat(Fixed::Mark(Mark::Comma)) {
-            let second = cursor.name()?;
-            vars.push(second)?;
-            Ok(vars)
+            let (vars, second) = named(cursor, vars)?;
+            pushed(vars, second)
         } else {
             Ok(vars)
+        }
+    }
+
+    /// The loop variables of an array that was found.
+    fn loop_vars_behind<T: Drop>(
+        &self,
+        cursor: &mut Cursor<'_>,
+        found: T,
+    ) -> Result<(T, Items<u32>), ReadFault>
+        ensures { Behind found (λ vars. vars) (spec.within cap self.now.room spec.loop_vars cursor.old) result cursor.new }
+    {
+        match self.loop_vars(cursor) {
+            Ok(vars) => Ok((found, vars)),
+            Err(fault) => Err(fault),
         }
     }
 
@@ -162,11 +193,11 @@ impl<F: Fn(Global, &mut Cursor<'_>, usize) -> Result<(Item, usize), ReadFault>> 
         let at = cursor.enter(self.room, 1)?;
         cursor.expect(Fixed::Mark(Mark::OpenParen))?;
         let (array, array_height) = path(self.alloc, cursor, self.room)?;
-        cursor.expect(Fixed::Mark(Mark::OpenBracket))?;
-        let vars = self.loop_vars(cursor)?;
-        cursor.expect(Fixed::Mark(Mark::CloseBracket))?;
-        cursor.expect(Fixed::Mark(Mark::CloseParen))?;
-        let (body, body_height) = self.set(cursor)?;
+        let array = ended(cursor, array, Fixed::Mark(Mark::OpenBracket))?;
+        let loops = self.loop_vars_behind(cursor, array)?;
+        let loops = ended(cursor, loops, Fixed::Mark(Mark::CloseBracket))?;
+        let loops = ended(cursor, loops, Fixed::Mark(Mark::CloseParen))?;
+        let ((array, vars), (body, body_height)) = self.set_behind(cursor, loops)?;
         Ok((
             Item::foreach(at, array, vars, body),
             array_height.max(body_height) + 1,

@@ -5,8 +5,9 @@ ghost use Rattle.svr_reader.specs.Answers.{Gives};
 ghost use Rattle.svr_reader.specs.Calls.{cap, height_view, heights_view};
 ghost use Rattle.svr_tree.specs.ItemTree.{item_tree, set_tree};
 ghost use Rattle.svr_item.specs.ItemRules as spec;
-ghost use Rattle.svr_item.specs.Parts.{ReadsItems, else_view};
+ghost use Rattle.svr_item.specs.Parts.{Behind, ReadsItems, else_view};
 
+use crate::behind::pushed;
 use crate::reader::Reader;
 use sqlite_items::Items;
 use std::alloc::Global;
@@ -49,14 +50,13 @@ impl<F: Fn(Global, &mut Cursor<'_>, usize) -> Result<(Item, usize), ReadFault>> 
         ensures low { IfOk result (λ x. x.1 ≤ self.now.room) }
     {
         let (item, height) = self.part(cursor)?;
-        let mut items = Items::new(self.alloc);
-        items.push(item)?;
+        let items = pushed(Items::new(self.alloc), item)?;
         Ok((Set::new(false, items), height))
     }
 
     /// A set, braced where a brace comes next.
     #[tactic(auto, unfolding(crate::specs::ItemRules::item_set))]
-    pub fn set(&self, cursor: &mut Cursor<'_>) -> Result<(Set, usize), ReadFault>
+    fn set(&self, cursor: &mut Cursor<'_>) -> Result<(Set, usize), ReadFault>
         requires reads { ReadsItems self.now.room (F.pre self.now.item) (F.post self.now.item) }
         ensures gives { Gives (height_view set_tree) (spec.within cap self.now.room spec.item_set cursor.old) result cursor.new }
         ensures low { IfOk result (λ x. x.1 ≤ self.now.room) }
@@ -70,7 +70,7 @@ impl<F: Fn(Global, &mut Cursor<'_>, usize) -> Result<(Item, usize), ReadFault>> 
 
     /// `else` and its set, where `else` comes next.
     #[tactic(auto, unfolding(crate::specs::ItemRules::otherwise, crate::specs::ItemRules::else_branch))]
-    pub fn otherwise(&self, cursor: &mut Cursor<'_>) -> Result<(Option<Set>, usize), ReadFault>
+    fn otherwise(&self, cursor: &mut Cursor<'_>) -> Result<(Option<Set>, usize), ReadFault>
         requires reads { ReadsItems self.now.room (F.pre self.now.item) (F.post self.now.item) }
         ensures gives { Gives (height_view else_view) (spec.within cap self.now.room spec.otherwise cursor.old) result cursor.new }
         ensures low { IfOk result (λ x. x.1 ≤ self.now.room) }
@@ -80,6 +80,38 @@ impl<F: Fn(Global, &mut Cursor<'_>, usize) -> Result<(Item, usize), ReadFault>> 
             Ok((Some(set), height))
         } else {
             Ok((None, 0))
+        }
+    }
+
+    /// A set behind what was found.
+    pub fn set_behind<T: Drop>(
+        &self,
+        cursor: &mut Cursor<'_>,
+        found: T,
+    ) -> Result<(T, (Set, usize)), ReadFault>
+        requires reads { ReadsItems self.now.room (F.pre self.now.item) (F.post self.now.item) }
+        ensures gives { Behind found (height_view set_tree) (spec.within cap self.now.room spec.item_set cursor.old) result cursor.new }
+        ensures low { IfOk result (λ x. x.1.1 ≤ self.now.room) }
+    {
+        match self.set(cursor) {
+            Ok(next) => Ok((found, next)),
+            Err(fault) => Err(fault),
+        }
+    }
+
+    /// `else` and its set behind what was found.
+    pub fn otherwise_behind<T: Drop>(
+        &self,
+        cursor: &mut Cursor<'_>,
+        found: T,
+    ) -> Result<(T, (Option<Set>, usize)), ReadFault>
+        requires reads { ReadsItems self.now.room (F.pre self.now.item) (F.post self.now.item) }
+        ensures gives { Behind found (height_view else_view) (spec.within cap self.now.room spec.otherwise cursor.old) result cursor.new }
+        ensures low { IfOk result (λ x. x.1.1 ≤ self.now.room) }
+    {
+        match self.otherwise(cursor) {
+            Ok(next) => Ok((found, next)),
+            Err(fault) => Err(fault),
         }
     }
 }

@@ -9,6 +9,7 @@ ghost use Rattle.svr_tree.specs.StmtTree.{randomize_tree};
 ghost use Rattle.svr_stmt.specs.StmtRules as spec;
 ghost use Rattle.svr_stmt.specs.Parts.{set_view};
 
+use crate::held::let_go;
 use crate::method::{Method, path_method};
 use crate::reader::Reader;
 use sqlite_items::Items;
@@ -76,9 +77,13 @@ impl Reader {
         ensures gives { Gives (height_view randomize_tree) (spec.within cap self.now.room (spec.randomize_end (expr_tree path) args) cursor.old) result cursor.new }
         ensures low { IfOk result (λ x. x.1 ≤ self.now.room) }
     {
-        let (with, height) = self.in_line(cursor)?;
-        let path = owner(path);
-        Ok((RandomizeCall { path, args, with }, height.max(1)))
+        match self.in_line(cursor) {
+            Ok((with, height)) => {
+                let path = owner(path);
+                Ok((RandomizeCall { path, args, with }, height.max(1)))
+            }
+            Err(fault) => Err(let_go(path, let_go(args, fault))),
+        }
     }
 
     /// Arguments and what follows, where there are some.
@@ -92,9 +97,13 @@ impl Reader {
         ensures gives { Gives (height_view randomize_tree) (spec.within cap self.now.room (spec.randomize_given (expr_tree path)) cursor.old) result cursor.new }
         ensures low { IfOk result (λ x. x.1 ≤ self.now.room) }
     {
-        let args = self.call_arguments(cursor)?;
-        cursor.expect(Fixed::Mark(Mark::CloseParen))?;
-        self.randomize_end(cursor, path, args)
+        match self.call_arguments(cursor) {
+            Ok(args) => match cursor.expect(Fixed::Mark(Mark::CloseParen)) {
+                Ok(()) => self.randomize_end(cursor, path, args),
+                Err(fault) => Err(let_go(path, let_go(args, fault))),
+            },
+            Err(fault) => Err(let_go(path, fault)),
+        }
     }
 
     /// The same behind `(`, or no arguments.
@@ -126,11 +135,11 @@ impl Reader {
     {
         let (path, kind) = self.path_here(cursor)?;
         match path_method(&path, kind) {
-            Some(Method::Randomize) => {
-                cursor.expect(Fixed::Mark(Mark::OpenParen))?;
-                self.randomize_on(cursor, path)
-            }
-            _ => Err(cursor.refuse()),
+            Some(Method::Randomize) => match cursor.expect(Fixed::Mark(Mark::OpenParen)) {
+                Ok(()) => self.randomize_on(cursor, path),
+                Err(fault) => Err(let_go(path, fault)),
+            },
+            _ => Err(let_go(path, cursor.refuse())),
         }
     }
 }

@@ -4,6 +4,7 @@
 #![tactic(auto)]
 
 mod calls;
+mod held;
 mod method;
 mod reader;
 mod right;

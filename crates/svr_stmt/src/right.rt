@@ -7,6 +7,7 @@ ghost use Rattle.svr_tree.specs.ExprTree.{expr_tree};
 ghost use Rattle.svr_tree.specs.StmtTree.{right_tree};
 ghost use Rattle.svr_stmt.specs.StmtRules as spec;
 
+use crate::held::ended;
 use crate::method::{Method, path_method};
 use crate::reader::Reader;
 use sqlite_items::Items;
@@ -34,7 +35,7 @@ impl Reader {
             Some(Lexeme::Mark(Mark::OpenBracket)) => {
                 cursor.take()?;
                 let (count, height) = expr(self.alloc, cursor, self.room, level::IMPLICATION)?;
-                cursor.expect(Fixed::Mark(Mark::CloseBracket))?;
+                let count = ended(cursor, count, Fixed::Mark(Mark::CloseBracket))?;
                 Ok((RightSide::NewArray(count), height))
             }
             _ => Ok((RightSide::New { parens: false }, 0)),
@@ -53,7 +54,7 @@ impl Reader {
             return Ok((RightSide::Pattern { at, values }, 0));
         }
         let (values, height) = exprs(self.alloc, cursor, self.room)?;
-        cursor.expect(Fixed::Mark(Mark::CloseBrace))?;
+        let values = ended(cursor, values, Fixed::Mark(Mark::CloseBrace))?;
         Ok((RightSide::Pattern { at, values }, height))
     }
 

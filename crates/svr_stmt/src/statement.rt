@@ -13,6 +13,7 @@ ghost use Rattle.svr_tree.specs.StmtTree.{StmtTree, stmt_tree};
 ghost use Rattle.svr_stmt.specs.StmtRules as spec;
 ghost use Rattle.svr_stmt.specs.Parts.{Nests};
 
+use crate::held::{ended, let_go};
 use crate::reader::Reader;
 use sqlite_items::Items;
 use std::alloc::Global;
@@ -36,9 +37,10 @@ impl Reader {
     {
         cursor.expect(Fixed::Mark(Mark::OpenParen))?;
         let (call, height) = self.whole_call(cursor)?;
-        cursor.expect(Fixed::Mark(Mark::CloseParen))?;
-        cursor.expect(Fixed::Mark(Mark::Semicolon))?;
-        Ok((Stmt::call(at, form, call), height + 1))
+        let found = Stmt::call(at, form, call);
+        let found = ended(cursor, found, Fixed::Mark(Mark::CloseParen))?;
+        let found = ended(cursor, found, Fixed::Mark(Mark::Semicolon))?;
+        Ok((found, height + 1))
     }
 
     /// `void'(call);`
@@ -136,10 +138,14 @@ impl<F: Fn(Global, &mut Cursor<'_>, usize) -> Result<(Stmt, usize), ReadFault>> 
             self.parts.room,
             level::IMPLICATION,
         )?;
-        cursor.expect(Fixed::Mark(Mark::CloseParen))?;
-        let (body, body_height) = self.part(cursor)?;
-        let whole = Stmt::repeat(self.parts.alloc, at, count, body)?;
-        Ok((whole, height.max(body_height) + 1))
+        let count = ended(cursor, count, Fixed::Mark(Mark::CloseParen))?;
+        match self.part(cursor) {
+            Ok((body, body_height)) => {
+                let whole = Stmt::repeat(self.parts.alloc, at, count, body)?;
+                Ok((whole, height.max(body_height) + 1))
+            }
+            Err(fault) => Err(let_go(count, fault)),
+        }
     }
 
     /// A statement over these parts.

@@ -7,6 +7,7 @@ ghost use Rattle.svr_tree.specs.ExprTree.{expr_tree};
 ghost use Rattle.svr_tree.specs.StmtTree.{stmt_tree};
 ghost use Rattle.svr_stmt.specs.StmtRules as spec;
 
+use crate::held::{ended, let_go};
 use crate::method::{Method, path_method};
 use crate::reader::Reader;
 use svr_expr::{expr, member_on, owner};
@@ -29,13 +30,15 @@ impl Reader {
         ensures low { IfOk result (λ x. x.1 ≤ self.now.room + 1) }
     {
         let (target, height) = member_on(self.alloc, cursor, self.room, at, path, 1)?;
-        cursor.expect(Fixed::Mark(Mark::Assign))?;
-        let (value, value_height) = self.right_in(cursor)?;
-        cursor.expect(Fixed::Mark(Mark::Semicolon))?;
-        Ok((
-            Stmt::assign(at, target, value),
-            height.max(value_height) + 1,
-        ))
+        let target = ended(cursor, target, Fixed::Mark(Mark::Assign))?;
+        match self.right_in(cursor) {
+            Ok((value, value_height)) => {
+                let found = Stmt::assign(at, target, value);
+                let found = ended(cursor, found, Fixed::Mark(Mark::Semicolon))?;
+                Ok((found, height.max(value_height) + 1))
+            }
+            Err(fault) => Err(let_go(target, fault)),
+        }
     }
 
     /// The rest of a call behind `(`.
@@ -52,8 +55,9 @@ impl Reader {
         ensures low { IfOk result (λ x. x.1 ≤ self.now.room + 1) }
     {
         let (call, height) = self.randomize_on(cursor, path)?;
-        cursor.expect(Fixed::Mark(Mark::Semicolon))?;
-        Ok((Stmt::call(at, CallForm::Plain, call), height + 1))
+        let found = Stmt::call(at, CallForm::Plain, call);
+        let found = ended(cursor, found, Fixed::Mark(Mark::Semicolon))?;
+        Ok((found, height + 1))
     }
 
     /// The rest of a mode behind `(`.
@@ -70,14 +74,16 @@ impl Reader {
         ensures gives { Gives (height_view stmt_tree) (spec.within cap self.now.room (spec.mode_on at (expr_tree path) kind) cursor.old) result cursor.new }
         ensures low { IfOk result (λ x. x.1 ≤ self.now.room + 1) }
     {
-        let (on, height) = expr(self.alloc, cursor, self.room, level::IMPLICATION)?;
-        cursor.expect(Fixed::Mark(Mark::CloseParen))?;
-        cursor.expect(Fixed::Mark(Mark::Semicolon))?;
-        let path = owner(path);
-        Ok((
-            Stmt::mode(at, ModeCall { path, kind, on }),
-            height.max(1) + 1,
-        ))
+        match expr(self.alloc, cursor, self.room, level::IMPLICATION) {
+            Ok((on, height)) => {
+                let path = owner(path);
+                let found = Stmt::mode(at, ModeCall { path, kind, on });
+                let found = ended(cursor, found, Fixed::Mark(Mark::CloseParen))?;
+                let found = ended(cursor, found, Fixed::Mark(Mark::Semicolon))?;
+                Ok((found, height.max(1) + 1))
+            }
+            Err(fault) => Err(let_go(path, fault)),
+        }
     }
 
     /// What stands behind the path that a statement begins with.

@@ -1,9 +1,10 @@
-use std::test::Fail;
+// Places by line and column.
+
 use svr_refusal::{Place, place_of, token_start};
 use svr_token::{Kind, Token};
 
 #[test]
-fn places_by_line_and_column(rt: HostRuntime) -> Result<(), Fail> {
+fn places_by_line_and_column(rt: HostRuntime) {
     let text = b"ab\n\tc";
     let places = [
         (0, 1, 1),
@@ -23,5 +24,4 @@ fn places_by_line_and_column(rt: HostRuntime) -> Result<(), Fail> {
     };
     assert!(rt; token_start(text, &[token], 0) == 4);
     assert!(rt; token_start(text, &[token], 1) == 5);
-    Ok(())
 }

@@ -1,4 +1,5 @@
-use std::test::Fail;
+// The steps of a reader.
+
 use svr_reader::{Cursor, Fixed, ReadFault, lexemes};
 use svr_token::{Kind, Lexeme, Mark, NameKind, Token, Word};
 
@@ -10,7 +11,7 @@ const ITEM: [Lexeme; 3] = [
 ];
 
 #[test]
-fn takes_token_by_token(rt: HostRuntime) -> Result<(), Fail> {
+fn takes_token_by_token(rt: HostRuntime) {
     let mut cursor = Cursor::new(&ITEM);
     assert!(rt; cursor.expect(Fixed::Mark(Mark::Semicolon)) == Err(ReadFault::Unexpected(3)));
     assert!(rt; cursor.eat(Fixed::Word(Word::Soft)));
@@ -20,18 +21,17 @@ fn takes_token_by_token(rt: HostRuntime) -> Result<(), Fail> {
     assert!(rt; cursor.peek() == Some(Lexeme::Mark(Mark::Semicolon)));
     assert!(rt; cursor.expect(Fixed::Mark(Mark::Semicolon)) == Ok(()));
     assert!(rt; cursor.take() == Err(ReadFault::Unexpected(0)));
-    Ok(())
 }
 
 #[test]
-fn a_mark_is_spelled(rt: HostRuntime) -> Result<(), Fail> {
+fn a_mark_is_spelled(rt: HostRuntime) {
     let token = Token {
         kind: Kind::Mark,
         start: 0,
         stop: 1,
     };
-    let found = lexemes(rt.alloc(), b";", &[token])?;
-    assert!(rt; found.len() == 1);
-    assert!(rt; found[0] == Lexeme::Mark(Mark::Semicolon));
-    Ok(())
+    match lexemes(rt.alloc(), b";", &[token]) {
+        Ok(found) => assert!(rt; found.as_slice() == [Lexeme::Mark(Mark::Semicolon)].as_slice()),
+        Err(_) => panic!(rt; "no memory"),
+    }
 }

@@ -1,5 +1,5 @@
 // Texts with their tokens or their fault.
-use std::test::Fail;
+use std::alloc::Global;
 use svr_lex::{LexFault, lex};
 use svr_token::Kind::{self, Literal, Mark, Name, System};
 use svr_token::Token;
@@ -164,34 +164,40 @@ const FAULTS: [(&[u8], LexFault); 40] = [
     (b"1 /* 2 */ 65'd1 0'd1", LexFault::LiteralTooWide { at: 10 }),
 ];
 
-#[test]
-fn tokens(rt: HostRuntime) -> Result<(), Fail> {
-    for (text, expected) in &TOKENS {
-        assert!(rt; text.len() <= 100);
-        let found = lex(rt.alloc(), text)?;
-        assert_eq!(rt; found.len(), expected.len(), "at {text:?}");
-        for (token, (kind, start, stop)) in found.iter().zip(expected.iter()) {
-            assert_eq!(rt;
-                *token,
-                Token {
-                    kind: *kind,
-                    start: *start,
-                    stop: *stop
-                },
-                "at {text:?}"
-            );
+/// Whether these are the tokens: each by its kind and its bytes.
+fn are(tokens: &[Token], wanted: &[(Kind, u32, u32)]) -> bool {
+    if tokens.len() != wanted.len() {
+        return false;
+    }
+    for (token, (kind, start, stop)) in tokens.iter().zip(wanted.iter()) {
+        if token.kind != *kind || token.start != *start || token.stop != *stop {
+            return false;
         }
     }
-    Ok(())
+    true
+}
+
+fn has_tokens(alloc: Global, text: &[u8], wanted: &[(Kind, u32, u32)]) -> bool {
+    if text.len() > 100 {
+        return false;
+    }
+    match lex(alloc, text) {
+        Ok(tokens) => are(&tokens, wanted),
+        Err(_) => false,
+    }
+}
+
+#[test]
+fn tokens(rt: HostRuntime) {
+    for (text, wanted) in &TOKENS {
+        assert!(rt; has_tokens(rt.alloc(), text, wanted), "at {text:?}");
+    }
 }
 
 #[test]
 fn faults(rt: HostRuntime) {
-    for (text, expected) in &FAULTS {
+    for (text, wanted) in &FAULTS {
         assert!(rt; text.len() <= 100);
-        match lex(rt.alloc(), text) {
-            Ok(_) => panic!(rt; "tokens at {text:?}"),
-            Err(fault) => assert_eq!(rt; fault, *expected, "at {text:?}"),
-        }
+        assert!(rt; lex(rt.alloc(), text).err() == Some(*wanted), "at {text:?}");
     }
 }
