@@ -10,23 +10,38 @@ use svr_tree::{
     UnitDecl, UnitKind, VarDecl, VarDeclarator, VarInit, VectorKind,
 };
 
+// Both, or the first error; so that no tree is held where its caller may give up.
+fn both<A: Drop, B: Drop, E: Drop>(first: Result<A, E>, second: Result<B, E>) -> Result<(A, B), E> {
+    let first = first?;
+    Ok((first, second?))
+}
+
 fn single<T: Drop>(alloc: Global, item: T) -> Result<Items<T>, AllocError> {
     let mut items = Items::new(alloc);
     items.push(item)?;
     Ok(items)
 }
 
+fn pair<T: Drop>(alloc: Global, items: (T, T)) -> Result<Items<T>, AllocError> {
+    let (first, second) = items;
+    let mut items = single(alloc, first)?;
+    items.push(second)?;
+    Ok(items)
+}
+
 fn path(alloc: Global, name: u32) -> Result<Expr, AllocError> {
-    Ok(Expr::path(0, Scope::Plain, single(alloc, name)?, false))
+    let names = single(alloc, name)?;
+    Ok(Expr::path(0, Scope::Plain, names, false))
 }
 
 // `rand bit NAME;`
-fn property(alloc: Global, name: u32) -> Result<ClassItem, AllocError> {
+fn property(alloc: Global, name: u32) -> Result<ClassItem, NoMemory> {
     let declarator = Declarator {
         name,
         dims: Items::new(alloc),
         value: None,
     };
+    let decls = single(alloc, declarator)?;
     Ok(ClassItem::Property(PropertyDecl {
         rand: Rand::Rand,
         kind: DataType::Integer(IntegerType::Vector {
@@ -35,70 +50,78 @@ fn property(alloc: Global, name: u32) -> Result<ClassItem, AllocError> {
             signing: None,
             range: None,
         }),
-        decls: single(alloc, declarator)?,
+        decls,
     }))
+}
+
+// `PROPERTY == 1`
+fn test(alloc: Global, property: u32) -> Result<Expr, NoMemory> {
+    let left = path(alloc, property)?;
+    Expr::binary(alloc, 0, BinOp::Equal, left, Expr::number(0, 1, 32, true))
 }
 
 // `constraint NAME { PROPERTY == 1; }`
 fn block(alloc: Global, name: u32, property: u32) -> Result<ClassItem, NoMemory> {
-    let test = Expr::binary(
-        alloc,
-        0,
-        BinOp::Equal,
-        path(alloc, property)?,
-        Expr::number(0, 1, 32, true),
-    )?;
-    Ok(ClassItem::Constraint(ConstraintBlock {
-        name,
-        items: single(alloc, Item::plain(0, false, test, None))?,
-    }))
+    let test = test(alloc, property)?;
+    let items = single(alloc, Item::plain(0, false, test, None))?;
+    Ok(ClassItem::Constraint(ConstraintBlock { name, items }))
 }
 
-// `module m; initial begin P OBJECT = new; TARGET.randomize(); end endmodule`, m being the name 3, and P the name 0.
-fn module(alloc: Global, object: u32, target: u32) -> Result<UnitDecl, AllocError> {
+// `P OBJECT = new;`
+fn variables(alloc: Global, object: u32) -> Result<Items<VarDecl>, AllocError> {
     let var = VarDeclarator {
         name: object,
         init: Some(VarInit::New { parens: false }),
     };
-    let decl = VarDecl {
-        kind: DataType::Named(0),
-        vars: single(alloc, var)?,
-    };
+    let vars = single(alloc, var)?;
+    let kind = DataType::Named(0);
+    single(alloc, VarDecl { kind, vars })
+}
+
+// `TARGET.randomize();`
+fn statements(alloc: Global, target: u32) -> Result<Items<Stmt>, AllocError> {
     let call = RandomizeCall {
         path: path(alloc, target)?,
         args: RandomizeArgs::Empty,
         with: None,
     };
+    single(alloc, Stmt::call(0, CallForm::Plain, call))
+}
+
+// `module m; initial begin P OBJECT = new; TARGET.randomize(); end endmodule`, m being the name 3, and P the name 0.
+fn module(alloc: Global, object: u32, target: u32) -> Result<UnitDecl, NoMemory> {
+    let (inner, stmts) = both(variables(alloc, object), statements(alloc, target))?;
     Ok(UnitDecl {
         kind: UnitKind::Module,
         name: 3,
         parens: false,
         outer: Items::new(alloc),
-        inner: single(alloc, decl)?,
-        stmts: single(alloc, Stmt::call(0, CallForm::Plain, call))?,
+        inner,
+        stmts,
         label: None,
     })
 }
 
 // A class P with the property a and the block c.
-fn class(alloc: Global) -> Result<ClassDecl, NoMemory> {
-    let mut items = Items::new(alloc);
-    items.push(property(alloc, 1)?)?;
-    items.push(block(alloc, 2, 1)?)?;
-    Ok(ClassDecl {
+fn classes(alloc: Global) -> Result<Items<ClassDecl>, NoMemory> {
+    let items = pair(alloc, both(property(alloc, 1), block(alloc, 2, 1))?)?;
+    let class = ClassDecl {
         name: 0,
         base: None,
         items,
         label: None,
-    })
+    };
+    Ok(single(alloc, class)?)
 }
 
 fn script(alloc: Global, target: u32) -> Result<Script, NoMemory> {
+    let order = single(alloc, Top::OfClass)?;
+    let (classes, unit) = both(classes(alloc), module(alloc, 4, target))?;
     Ok(Script {
         types: Items::new(alloc),
-        classes: single(alloc, class(alloc)?)?,
-        order: single(alloc, Top::OfClass)?,
-        unit: module(alloc, 4, target)?,
+        classes,
+        order,
+        unit,
     })
 }
 
@@ -115,31 +138,37 @@ fn names(alloc: Global) -> Result<Vec<Token>, AllocError> {
     Ok(tokens)
 }
 
-#[test]
-fn class_of_one_bit(rt: HostRuntime) -> Result<(), Fail> {
-    let tokens = names(rt.alloc())?;
+// Whether the class of a script is that of the one bit and its item; nothing where the script is of another form.
+fn is_class(alloc: Global, tokens: &[Token], script: &Script) -> Result<Option<bool>, NoMemory> {
     let names = Names {
         text: b"P a c m p",
-        tokens: &tokens,
+        tokens,
     };
-    let script = script(rt.alloc(), 4)?;
-    let Some(class) = bit_class(rt.alloc(), &names, &script)? else {
-        return Err(Fail::from("the script is of the form"));
-    };
-    assert!(rt; class.object == b"p".as_slice());
-    assert!(rt; class.widths.as_slice() == [1].as_slice());
-    assert!(rt; class.items.len() == 1);
+    match bit_class(alloc, &names, script) {
+        Ok(Some(class)) => Ok(Some(
+            class.object == b"p".as_slice()
+                && class.widths.as_slice() == [1].as_slice()
+                && class.items.len() == 1,
+        )),
+        Ok(None) => Ok(None),
+        Err(_) => Err(NoMemory),
+    }
+}
+
+fn is_class_with(alloc: Global, target: u32) -> Result<Option<bool>, NoMemory> {
+    let tokens = names(alloc)?;
+    let script = script(alloc, target)?;
+    is_class(alloc, &tokens, &script)
+}
+
+#[test]
+fn class_of_one_bit(rt: HostRuntime) -> Result<(), Fail> {
+    assert!(rt; is_class_with(rt.alloc(), 4)? == Some(true));
     Ok(())
 }
 
 #[test]
 fn another_object_is_called(rt: HostRuntime) -> Result<(), Fail> {
-    let tokens = names(rt.alloc())?;
-    let names = Names {
-        text: b"P a c m p",
-        tokens: &tokens,
-    };
-    let script = script(rt.alloc(), 3)?;
-    assert!(rt; bit_class(rt.alloc(), &names, &script)?.is_none());
+    assert!(rt; is_class_with(rt.alloc(), 3)?.is_none());
     Ok(())
 }

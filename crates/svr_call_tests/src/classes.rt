@@ -2,113 +2,206 @@
 
 use sqlite_items::Items;
 use std::alloc::Global;
-use std::process::Abort;
 use std::test::Fail;
 use svr_flat::{copy_expr, copy_item, flatten};
 use svr_operator::{BinOp, Fold, Rand, Share, UnOp};
 use svr_typed::{
-    ArrayKind, Design, EnumType, NoMemory, NumType, Prop, TBlock, TBound, TClass, TDistItem, TExpr,
-    TItem, TNode, TRange, TStmt, TVar, Text,
+    ArrayKind, Design, EnumType, FlatClass, NoMemory, NumType, Prop, TBlock, TBound, TClass,
+    TDistItem, TExpr, TItem, TNode, TRange, TStmt, TVar, Text,
 };
+
+/// Both, or the first error. No tree is held where its caller may give up.
+fn both<A: Drop, B: Drop>(
+    first: Result<A, NoMemory>,
+    second: Result<B, NoMemory>,
+) -> Result<(A, B), NoMemory> {
+    let first = first?;
+    Ok((first, second?))
+}
+
+/// The list with one more at its end.
+fn pushed<T: Drop>(mut list: Items<T>, one: Result<T, NoMemory>) -> Result<Items<T>, NoMemory> {
+    list.push(one?)?;
+    Ok(list)
+}
+
+fn is_made<T: Drop>(made: Result<T, NoMemory>) -> bool {
+    made.is_ok()
+}
+
+/// An expression with others below it.
+enum Form {
+    Element,
+    Cell,
+    Reduce,
+    OfObject,
+    BitSelect,
+    PartSelect,
+    Unary,
+    Binary,
+    Choice,
+    Inside,
+    Join,
+    Copies,
+    Sign,
+}
+
+const FORMS: [Form; 13] = [
+    Form::Element,
+    Form::Cell,
+    Form::Reduce,
+    Form::OfObject,
+    Form::BitSelect,
+    Form::PartSelect,
+    Form::Unary,
+    Form::Binary,
+    Form::Choice,
+    Form::Inside,
+    Form::Join,
+    Form::Copies,
+    Form::Sign,
+];
 
 fn number(value: u64) -> TExpr {
     TExpr::new(32, true, TNode::number(value, false))
 }
 
-/// A copy of the expression of this form is made.
-fn is_copied(rt: &impl Abort, alloc: Global, node: Result<TNode, NoMemory>) {
-    if let Ok(node) = node {
-        let copy = copy_expr(alloc, &TExpr::new(32, true, node));
-        assert!(rt; copy.is_ok());
-    } else {
-        assert!(rt; false);
-    }
-}
-
 fn one_range(alloc: Global) -> Result<Items<TRange>, NoMemory> {
-    let mut set = Items::<TRange>::new(alloc);
-    set.push(TRange::span(TBound::value(number(1)), TBound::dollar()))?;
-    Ok(set)
+    pushed(
+        Items::<TRange>::new(alloc),
+        Ok(TRange::span(TBound::value(number(1)), TBound::dollar())),
+    )
 }
 
 fn one_part(alloc: Global) -> Result<Items<TExpr>, NoMemory> {
-    let mut parts = Items::<TExpr>::new(alloc);
-    parts.push(number(1))?;
-    Ok(parts)
+    pushed(Items::<TExpr>::new(alloc), Ok(number(1)))
+}
+
+fn inside(alloc: Global) -> Result<TNode, NoMemory> {
+    let set = one_range(alloc)?;
+    TNode::inside(alloc, number(1), set)
+}
+
+fn copies(alloc: Global) -> Result<TNode, NoMemory> {
+    let parts = one_part(alloc)?;
+    TNode::copies(alloc, number(1), parts)
+}
+
+fn node(alloc: Global, form: &Form) -> Result<TNode, NoMemory> {
+    match form {
+        Form::Element => TNode::element(alloc, 0, number(1)),
+        Form::Cell => TNode::cell(alloc, 0, 2, number(1), number(2)),
+        Form::Reduce => TNode::reduce(alloc, 0, Fold::Sum, number(1)),
+        Form::OfObject => TNode::of_object(alloc, 0, number(1)),
+        Form::BitSelect => TNode::bit_select(alloc, number(1), number(2), 0),
+        Form::PartSelect => TNode::part_select(alloc, number(1), number(2), number(3), 0),
+        Form::Unary => TNode::unary(alloc, UnOp::Minus, number(1)),
+        Form::Binary => TNode::binary(alloc, BinOp::Add, number(1), number(2)),
+        Form::Choice => TNode::choice(alloc, number(1), number(2), number(3)),
+        Form::Inside => inside(alloc),
+        Form::Join => Ok(TNode::join(one_part(alloc)?)),
+        Form::Copies => copies(alloc),
+        Form::Sign => TNode::sign(alloc, true, number(1)),
+    }
+}
+
+fn is_copied(alloc: Global, form: &Form) -> Result<bool, NoMemory> {
+    let node = node(alloc, form)?;
+    Ok(is_made(copy_expr(alloc, &TExpr::new(32, true, node))))
 }
 
 #[test]
 fn expressions_are_copied(rt: HostRuntime) -> Result<(), Fail> {
-    let alloc = rt.alloc();
-    is_copied(&rt, alloc, TNode::element(alloc, 0, number(1)));
-    is_copied(&rt, alloc, TNode::cell(alloc, 0, 2, number(1), number(2)));
-    is_copied(&rt, alloc, TNode::reduce(alloc, 0, Fold::Sum, number(1)));
-    is_copied(&rt, alloc, TNode::of_object(alloc, 0, number(1)));
-    is_copied(
-        &rt,
-        alloc,
-        TNode::bit_select(alloc, number(1), number(2), 0),
-    );
-    is_copied(
-        &rt,
-        alloc,
-        TNode::part_select(alloc, number(1), number(2), number(3), 0),
-    );
-    is_copied(&rt, alloc, TNode::unary(alloc, UnOp::Minus, number(1)));
-    is_copied(
-        &rt,
-        alloc,
-        TNode::binary(alloc, BinOp::Add, number(1), number(2)),
-    );
-    is_copied(
-        &rt,
-        alloc,
-        TNode::choice(alloc, number(1), number(2), number(3)),
-    );
-    let set = one_range(alloc)?;
-    is_copied(&rt, alloc, TNode::inside(alloc, number(1), set));
-    let parts = one_part(alloc)?;
-    is_copied(&rt, alloc, Ok(TNode::join(parts)));
-    let parts = one_part(alloc)?;
-    is_copied(&rt, alloc, TNode::copies(alloc, number(1), parts));
-    is_copied(&rt, alloc, TNode::sign(alloc, true, number(1)));
+    for form in &FORMS {
+        assert!(rt; is_copied(rt.alloc(), form)?);
+    }
     Ok(())
 }
 
+/// A constraint item with expressions or items below it.
+enum ItemForm {
+    Plain,
+    Unique,
+    Implies,
+    Branch,
+    BranchElse,
+    Foreach,
+    Disable,
+    Solve,
+}
+
+const ITEM_FORMS: [ItemForm; 8] = [
+    ItemForm::Plain,
+    ItemForm::Unique,
+    ItemForm::Implies,
+    ItemForm::Branch,
+    ItemForm::BranchElse,
+    ItemForm::Foreach,
+    ItemForm::Disable,
+    ItemForm::Solve,
+];
+
 /// The item `value`.
 fn one_item(alloc: Global, value: u64) -> Result<Items<TItem>, NoMemory> {
-    let mut items = Items::<TItem>::new(alloc);
-    items.push(TItem::plain(false, number(value), None))?;
-    Ok(items)
+    pushed(
+        Items::<TItem>::new(alloc),
+        Ok(TItem::plain(false, number(value), None)),
+    )
 }
 
 fn one_member(alloc: Global) -> Result<Items<TDistItem>, NoMemory> {
-    let mut members = Items::<TDistItem>::new(alloc);
     let weight = Some((Share::Whole, number(3)));
-    members.push(TDistItem::new(TRange::one(number(1)), weight))?;
-    Ok(members)
+    pushed(
+        Items::<TDistItem>::new(alloc),
+        Ok(TDistItem::new(TRange::one(number(1)), weight)),
+    )
+}
+
+fn dist(alloc: Global) -> Result<TItem, NoMemory> {
+    let dist = one_member(alloc)?;
+    Ok(TItem::plain(true, number(1), Some(dist)))
+}
+
+fn branch_else(alloc: Global) -> Result<TItem, NoMemory> {
+    let (body, other) = both(one_item(alloc, 1), one_item(alloc, 1))?;
+    Ok(TItem::branch_else(number(1), body, other))
+}
+
+fn solve(alloc: Global) -> Result<TItem, NoMemory> {
+    let (parts, later) = both(one_part(alloc), one_part(alloc))?;
+    Ok(TItem::solve(parts, later))
+}
+
+fn with_body(alloc: Global, form: &ItemForm) -> Result<TItem, NoMemory> {
+    let body = one_item(alloc, 1)?;
+    Ok(match form {
+        ItemForm::Implies => TItem::implies(number(1), body),
+        ItemForm::Foreach => TItem::foreach(0, 1, 1, body),
+        _ => TItem::branch(number(1), body),
+    })
+}
+
+fn item(alloc: Global, form: &ItemForm) -> Result<TItem, NoMemory> {
+    match form {
+        ItemForm::Plain => dist(alloc),
+        ItemForm::Unique => Ok(TItem::unique(one_part(alloc)?)),
+        ItemForm::BranchElse => branch_else(alloc),
+        ItemForm::Disable => Ok(TItem::disable(number(1))),
+        ItemForm::Solve => solve(alloc),
+        ItemForm::Implies | ItemForm::Branch | ItemForm::Foreach => with_body(alloc, form),
+    }
+}
+
+fn is_item_copied(alloc: Global, form: &ItemForm) -> Result<bool, NoMemory> {
+    let item = item(alloc, form)?;
+    Ok(is_made(copy_item(alloc, &item)))
 }
 
 #[test]
 fn items_are_copied(rt: HostRuntime) -> Result<(), Fail> {
-    let alloc = rt.alloc();
-    let dist = one_member(alloc)?;
-    assert!(rt; copy_item(alloc, &TItem::plain(true, number(1), Some(dist))).is_ok());
-    let parts = one_part(alloc)?;
-    assert!(rt; copy_item(alloc, &TItem::unique(parts)).is_ok());
-    let body = one_item(alloc, 1)?;
-    assert!(rt; copy_item(alloc, &TItem::implies(number(1), body)).is_ok());
-    let body = one_item(alloc, 1)?;
-    assert!(rt; copy_item(alloc, &TItem::branch(number(1), body)).is_ok());
-    let body = one_item(alloc, 1)?;
-    let other = one_item(alloc, 1)?;
-    assert!(rt; copy_item(alloc, &TItem::branch_else(number(1), body, other)).is_ok());
-    let body = one_item(alloc, 1)?;
-    assert!(rt; copy_item(alloc, &TItem::foreach(0, 1, 1, body)).is_ok());
-    assert!(rt; copy_item(alloc, &TItem::disable(number(1))).is_ok());
-    let parts = one_part(alloc)?;
-    let later = one_part(alloc)?;
-    assert!(rt; copy_item(alloc, &TItem::solve(parts, later)).is_ok());
+    for form in &ITEM_FORMS {
+        assert!(rt; is_item_copied(rt.alloc(), form)?);
+    }
     Ok(())
 }
 
@@ -117,9 +210,8 @@ fn name(alloc: Global, letter: u8) -> Result<Text, NoMemory> {
 }
 
 fn bit(alloc: Global, letter: u8) -> Result<Prop, NoMemory> {
-    let name = name(alloc, letter)?;
     Ok(Prop {
-        name,
+        name: name(alloc, letter)?,
         kind: NumType {
             width: 1,
             signed: false,
@@ -135,70 +227,98 @@ fn bit(alloc: Global, letter: u8) -> Result<Prop, NoMemory> {
 }
 
 fn block(alloc: Global, letter: u8, value: u64) -> Result<TBlock, NoMemory> {
-    let name = name(alloc, letter)?;
-    let items = one_item(alloc, value)?;
+    let (name, items) = both(name(alloc, letter), one_item(alloc, value))?;
     Ok(TBlock::new(name, items))
 }
 
-/// A class with a property and a block for each letter.
+fn blocks(alloc: Global, letters: &[u8], value: u64) -> Result<Items<TBlock>, NoMemory> {
+    let mut blocks = Items::<TBlock>::new(alloc);
+    for letter in letters {
+        blocks = pushed(blocks, block(alloc, *letter, value))?;
+    }
+    Ok(blocks)
+}
+
+/// A class with a property, and a block for each letter.
 fn class(
     alloc: Global,
     base: Option<u32>,
     prop: u8,
-    blocks: &[u8],
+    letters: &[u8],
     value: u64,
 ) -> Result<TClass, NoMemory> {
-    let mut props = Items::<Prop>::new(alloc);
-    props.push(bit(alloc, prop)?)?;
-    let mut own = Items::<TBlock>::new(alloc);
-    for letter in blocks {
-        own.push(block(alloc, *letter, value)?)?;
-    }
-    let name = name(alloc, b'C')?;
-    Ok(TClass::new(name, base, props, own))
+    let props = pushed(Items::<Prop>::new(alloc), bit(alloc, prop));
+    let parts = both(props, blocks(alloc, letters, value));
+    let (name, (props, blocks)) = both(name(alloc, b'C'), parts)?;
+    Ok(TClass::new(name, base, props, blocks))
 }
 
 /// D extends B; both have a block c, and B has a block e behind it.
-fn two_classes(alloc: Global) -> Result<Design, NoMemory> {
-    let mut classes = Items::<TClass>::new(alloc);
-    classes.push(class(alloc, None, b'x', b"ce", 0)?)?;
-    classes.push(class(alloc, Some(0), b'a', b"c", 1)?)?;
-    Ok(Design::new(
+fn two_classes(alloc: Global) -> Result<Items<TClass>, NoMemory> {
+    let classes = pushed(
+        Items::<TClass>::new(alloc),
+        class(alloc, None, b'x', b"ce", 0),
+    )?;
+    pushed(classes, class(alloc, Some(0), b'a', b"c", 1))
+}
+
+fn flat(alloc: Global, class: u32) -> Result<FlatClass, NoMemory> {
+    let classes = two_classes(alloc)?;
+    let design = Design::new(
         Items::<EnumType>::new(alloc),
         classes,
         Items::<TVar>::new(alloc),
         Items::<TStmt>::new(alloc),
-    ))
+    );
+    flatten(alloc, &design, class)
 }
 
-fn has_value(rt: &impl Abort, block: &TBlock, letter: u8, wanted: u64) {
-    assert_eq!(rt; block.name.as_bytes(), [letter].as_slice());
+/// Whether the item is just this number.
+fn is_number(item: &TItem, wanted: u64) -> bool {
+    let TItem::Plain { expr, .. } = item else {
+        return false;
+    };
+    match &expr.node {
+        TNode::Number { value, .. } => *value == wanted,
+        _ => false,
+    }
+}
+
+/// Whether the block has this name, and items that are this number.
+fn is_block(block: &TBlock, letter: u8, wanted: u64) -> bool {
     for item in block.items.as_slice() {
-        if let TItem::Plain { expr, .. } = item {
-            if let TNode::Number { value, .. } = &expr.node {
-                assert_eq!(rt; *value, wanted);
-            }
+        if !is_number(item, wanted) {
+            return false;
         }
+    }
+    block.name.as_bytes() == [letter].as_slice()
+}
+
+/// Whether the properties are x and a.
+fn has_both_properties(flat: &FlatClass) -> bool {
+    match flat.props.as_slice() {
+        [x, a] => x.name.as_bytes() == b"x".as_slice() && a.name.as_bytes() == b"a".as_slice(),
+        _ => false,
+    }
+}
+
+fn has_own_block_last(flat: &FlatClass) -> bool {
+    match flat.blocks.as_slice() {
+        [first, last] => is_block(first, b'e', 0) && is_block(last, b'c', 1),
+        _ => false,
     }
 }
 
 #[test]
 fn a_derived_class_has_its_own_block_last(rt: HostRuntime) -> Result<(), Fail> {
-    let alloc = rt.alloc();
-    let design = two_classes(alloc)?;
-    let flat = flatten(alloc, &design, 1)?;
-    let mut names = [b'x', b'a'].iter();
-    for prop in flat.props.as_slice() {
-        let wanted = names.next();
-        assert_eq!(rt; prop.name.as_bytes().first().copied(), wanted.copied());
-    }
-    assert_eq!(rt; flat.props.len(), 2);
-    assert_eq!(rt; flat.blocks.len(), 2);
-    if let [first, last] = flat.blocks.as_slice() {
-        has_value(&rt, first, b'e', 0);
-        has_value(&rt, last, b'c', 1);
-    }
-    let none = flatten(alloc, &design, 2)?;
+    let flat = flat(rt.alloc(), 1)?;
+    assert!(rt; has_both_properties(&flat) && has_own_block_last(&flat));
+    Ok(())
+}
+
+#[test]
+fn a_number_of_no_class_has_nothing(rt: HostRuntime) -> Result<(), Fail> {
+    let none = flat(rt.alloc(), 2)?;
     assert!(rt; none.props.is_empty() && none.blocks.is_empty());
     Ok(())
 }

@@ -1,11 +1,11 @@
 // Objects through their calls.
 
 ghost use Rattle.std.specs.Prelude.{◌≡◌, ◌≤◌, ◌+◌, ◌-◌, ◌^◌, ℕ, IfOk};
+ghost use Rattle.svr_limits.specs.declared.limit.TheConstants.{ELEMENT_LIMIT};
 ghost use Rattle.svr_world.specs.Fits.{AreShort, AreRising, AreSmall};
 
 use sqlite_items::Items;
 use std::alloc::Global;
-use std::process::Abort;
 use std::test::Fail;
 use svr_operator::Rand;
 use svr_typed::{
@@ -15,7 +15,7 @@ use svr_typed::{
 use svr_world::{Change, Replacement, Watch, World};
 
 /// Counts samples while there is room for the count.
-#[derive(Debug, Drop)]
+#[derive(Drop)]
 struct Counter {
     taken: u32,
 }
@@ -84,7 +84,7 @@ fn var(alloc: Global, kind: VarKind) -> TVar {
 }
 
 /// A number and an object of the class 3.
-fn two_vars(alloc: Global) -> Result<Design, NoMemory> {
+fn two_vars(alloc: Global) -> Result<Items<TVar>, NoMemory> {
     let mut vars = Items::<TVar>::new(alloc);
     let bit = NumType {
         width: 1,
@@ -93,19 +93,25 @@ fn two_vars(alloc: Global) -> Result<Design, NoMemory> {
     };
     vars.push(var(alloc, VarKind::Number(bit)))?;
     vars.push(var(alloc, VarKind::Object(3)))?;
-    Ok(Design::new(
+    Ok(vars)
+}
+
+/// The world of two variables, of which nothing was made.
+fn blank(alloc: Global) -> Result<World, NoMemory> {
+    let design = Design::new(
         Items::<EnumType>::new(alloc),
         Items::<TClass>::new(alloc),
-        vars,
+        two_vars(alloc)?,
         Items::<TStmt>::new(alloc),
-    ))
+    );
+    World::new(alloc, &design)
 }
 
 #[test]
 fn a_watch_takes_samples(rt: HostRuntime) {
     let mut counter = Counter { taken: 3 };
     watch_twice(&mut counter, 0, &[]);
-    assert_eq!(rt; counter.taken, 5);
+    assert!(rt; counter.taken == 5);
 }
 
 /// The object variable of `two_vars`, and its properties.
@@ -117,103 +123,181 @@ const FIXED: u32 = 1;
 
 const QUEUE: u32 = 2;
 
-/// A world in which the object was made.
-fn made(rt: &impl Abort, alloc: Global) -> Result<World, NoMemory> {
-    let mut world = World::new(alloc, &two_vars(alloc)?)?;
-    assert!(rt; !world.is_made(OBJECT));
+fn make(alloc: Global, world: &mut World) -> Result<(), NoMemory> {
     let class = class(alloc)?;
-    world.make(alloc, OBJECT, &class)?;
+    world.make(alloc, OBJECT, &class)
+}
+
+/// A world in which the object was made.
+fn made(alloc: Global) -> Result<World, NoMemory> {
+    let mut world = blank(alloc)?;
+    make(alloc, &mut world)?;
     Ok(world)
 }
 
-/// The numbers at these places: property, index, number.
-fn has_numbers(rt: &impl Abort, world: &World, table: &[(u32, u32, u64)]) {
+/// Whether the numbers stand at these places: property, index, number.
+fn has_numbers(world: &World, table: &[(u32, u32, u64)]) -> bool {
     for (prop, index, number) in table {
-        let found = world.get(OBJECT, *prop, *index);
-        assert_eq!(rt; found, *number);
+        if world.get(OBJECT, *prop, *index) != *number {
+            return false;
+        }
     }
+    true
 }
 
-/// The sizes of the three properties, and of one that is none.
-fn has_sizes(rt: &impl Abort, world: &World, sizes: [u32; 4]) {
-    for (prop, size) in sizes.iter().enumerate() {
-        let found = world.size(OBJECT, prop as u32);
-        assert_eq!(rt; found, *size);
+/// Whether the three properties, and one that is none, have these sizes.
+fn has_sizes(world: &World, sizes: &[u32; 4]) -> bool {
+    for prop in 0..4 {
+        if world.size(OBJECT, prop) != sizes[prop as usize] {
+            return false;
+        }
     }
+    true
+}
+
+/// Whether the three properties, and one that is none, are switched so.
+fn has_modes(world: &World, modes: &[bool; 4]) -> bool {
+    for prop in 0..4 {
+        if world.prop_mode(OBJECT, prop) != modes[prop as usize] {
+            return false;
+        }
+    }
+    true
+}
+
+#[test]
+fn nothing_is_made_at_first(rt: HostRuntime) -> Result<(), Fail> {
+    let world = blank(rt.alloc())?;
+    assert!(rt; !world.is_made(OBJECT));
+    Ok(())
+}
+
+fn starts_with_values(world: &World) -> bool {
+    let numbers = [(SCALAR, 0, 7), (FIXED, 0, 0), (FIXED, 1, 0), (3, 0, 0)];
+    has_sizes(world, &[1, 2, 0, 0])
+        && has_numbers(world, &numbers)
+        && world.values(OBJECT).len() == 3
+        && world.used(OBJECT, SCALAR).is_empty()
+        && world.script() == [0, 0].as_slice()
+}
+
+fn starts_switched_on(world: &World) -> bool {
+    has_modes(world, &[true, true, true, false])
+        && world.block_mode(OBJECT, 0)
+        && !world.block_mode(OBJECT, 1)
 }
 
 #[test]
 fn an_object_starts_with_initial_values(rt: HostRuntime) -> Result<(), Fail> {
-    let world = made(&rt, rt.alloc())?;
-    assert!(rt; world.is_made(OBJECT) && !world.is_made(0));
-    assert_eq!(rt; world.class_of(OBJECT), 3);
-    has_sizes(&rt, &world, [1, 2, 0, 0]);
-    has_numbers(
-        &rt,
-        &world,
-        &[(SCALAR, 0, 7), (FIXED, 0, 0), (FIXED, 1, 0), (3, 0, 0)],
-    );
-    assert!(rt; world.prop_mode(OBJECT, SCALAR) && world.prop_mode(OBJECT, QUEUE));
-    assert!(rt; !world.prop_mode(OBJECT, 3));
-    assert!(rt; world.block_mode(OBJECT, 0) && !world.block_mode(OBJECT, 1));
-    assert!(rt; world.used(OBJECT, SCALAR).is_empty());
-    assert_eq!(rt; world.values(OBJECT).len(), 3);
-    assert_eq!(rt; world.script(), [0, 0].as_slice());
+    let world = made(rt.alloc())?;
+    assert!(rt; starts_with_values(&world) && starts_switched_on(&world));
     Ok(())
+}
+
+#[test]
+fn an_object_is_made_of_its_class(rt: HostRuntime) -> Result<(), Fail> {
+    let world = made(rt.alloc())?;
+    assert!(rt; world.is_made(OBJECT) && !world.is_made(0) && world.class_of(OBJECT) == 3);
+    Ok(())
+}
+
+fn write(world: &mut World, prop: u32, index: u32, number: u64) {
+    if world.is_made(OBJECT) {
+        world.set(OBJECT, prop, index, number);
+    }
+}
+
+/// Whether the write at a place stays, and those at no place do nothing.
+fn keeps_writes(world: &mut World) -> bool {
+    for (prop, index, number) in &[(FIXED, 1, 9), (FIXED, 2, 8), (QUEUE, 0, 4), (3, 0, 5)] {
+        write(world, *prop, *index, *number);
+    }
+    has_sizes(world, &[1, 2, 0, 0])
+        && has_numbers(world, &[(FIXED, 0, 0), (FIXED, 1, 9), (FIXED, 2, 0)])
+}
+
+/// Whether the last element is `last` where the queue has this size; then 6 is written behind the first.
+fn is_resized(alloc: Global, world: &mut World, size: u32, last: u64) -> Result<bool, NoMemory>
+    requires low { 1 ≤ size }
+    requires high { size ≤ ELEMENT_LIMIT }
+{
+    if !world.is_made(OBJECT) {
+        return Ok(false);
+    }
+    world.resize(alloc, OBJECT, QUEUE, size)?;
+    let found = world.get(OBJECT, QUEUE, size - 1);
+    write(world, QUEUE, 1, 6);
+    Ok(found == last && has_sizes(world, &[1, 2, size, 0]))
+}
+
+fn keeps_what_fits(alloc: Global, world: &mut World) -> Result<bool, NoMemory> {
+    let is_longer = is_resized(alloc, world, 3, 0)?;
+    let is_shorter = is_resized(alloc, world, 2, 6)?;
+    let is_longer_again = is_resized(alloc, world, 3, 0)?;
+    let numbers = [(FIXED, 1, 9), (QUEUE, 1, 6), (QUEUE, 2, 0)];
+    Ok(is_longer && is_shorter && is_longer_again && has_numbers(world, &numbers))
+}
+
+/// Whether a script variable keeps its number, and one that is none does nothing.
+fn keeps_script(world: &mut World) -> bool {
+    world.script_set(0, 1);
+    world.script_set(2, 5);
+    world.script() == [1, 0].as_slice() && world.script_get(0) == 1
+}
+
+fn keeps_all(alloc: Global, world: &mut World) -> Result<bool, NoMemory> {
+    Ok(keeps_writes(world) && keeps_what_fits(alloc, world)? && keeps_script(world))
 }
 
 #[test]
 fn writes_and_sizes_stay(rt: HostRuntime) -> Result<(), Fail> {
-    let alloc = rt.alloc();
-    let mut world = made(&rt, alloc)?;
-    for (prop, index, number) in [(FIXED, 1, 9), (FIXED, 2, 8), (QUEUE, 0, 4), (3, 0, 5)] {
-        assert!(rt; world.is_made(OBJECT));
-        world.set(OBJECT, prop, index, number);
-    }
-    has_sizes(&rt, &world, [1, 2, 0, 0]);
-    has_numbers(&rt, &world, &[(FIXED, 0, 0), (FIXED, 1, 9), (FIXED, 2, 0)]);
-    for (size, last) in [(3, 0), (2, 6), (3, 0)] {
-        assert!(rt; world.is_made(OBJECT));
-        world.resize(alloc, OBJECT, QUEUE, size)?;
-        assert_eq!(rt; world.get(OBJECT, QUEUE, size - 1), last);
-        assert!(rt; world.is_made(OBJECT));
-        world.set(OBJECT, QUEUE, 1, 6);
-        has_sizes(&rt, &world, [1, 2, size, 0]);
-    }
-    has_numbers(&rt, &world, &[(FIXED, 1, 9), (QUEUE, 1, 6), (QUEUE, 2, 0)]);
-    world.script_set(0, 1);
-    world.script_set(2, 5);
-    assert_eq!(rt; world.script(), [1, 0].as_slice());
-    assert_eq!(rt; world.script_get(0), 1);
+    let mut world = made(rt.alloc())?;
+    assert!(rt; keeps_all(rt.alloc(), &mut world)?);
     Ok(())
+}
+
+/// Whether the properties are switched so behind the switch of one, or of all.
+fn is_switched(world: &mut World, prop: Option<u32>, on: bool, modes: &[bool; 4]) -> bool {
+    if world.is_made(OBJECT) {
+        world.rand_mode(OBJECT, prop, on);
+    }
+    has_modes(world, modes)
+}
+
+fn is_block_switched(world: &mut World) -> bool {
+    if world.is_made(OBJECT) {
+        world.constraint_mode(OBJECT, None, false);
+    }
+    !world.block_mode(OBJECT, 0)
+}
+
+/// Switches of a property or of all, and how the properties are switched behind each.
+const SWITCHES: [(Option<u32>, bool, [bool; 4]); 4] = [
+    (Some(FIXED), false, [true, false, true, false]),
+    (None, false, [false, false, false, false]),
+    (Some(QUEUE), true, [false, false, true, false]),
+    (Some(3), true, [false, false, true, false]),
+];
+
+fn are_switched(world: &mut World) -> bool {
+    for (prop, on, modes) in &SWITCHES {
+        if !is_switched(world, *prop, *on, modes) {
+            return false;
+        }
+    }
+    is_block_switched(world)
 }
 
 #[test]
 fn modes_are_switched(rt: HostRuntime) -> Result<(), Fail> {
-    let mut world = made(&rt, rt.alloc())?;
-    let table = [
-        (Some(FIXED), false, [true, false, true]),
-        (None, false, [false, false, false]),
-        (Some(QUEUE), true, [false, false, true]),
-        (Some(3), true, [false, false, true]),
-    ];
-    for (prop, on, modes) in table {
-        assert!(rt; world.is_made(OBJECT));
-        world.rand_mode(OBJECT, prop, on);
-        for (prop, mode) in modes.iter().enumerate() {
-            let found = world.prop_mode(OBJECT, prop as u32);
-            assert_eq!(rt; found, *mode);
-        }
-    }
-    assert!(rt; world.is_made(OBJECT));
-    world.constraint_mode(OBJECT, None, false);
-    assert!(rt; !world.block_mode(OBJECT, 0));
+    let mut world = made(rt.alloc())?;
+    assert!(rt; are_switched(&mut world));
     Ok(())
 }
 
-/// The scalar is 2, the queue has 5 and 6, and the values 1 and 4 of the scalar are used.
-fn change(alloc: Global) -> Result<Change, NoMemory>
-    ensures { IfOk result (λ change. AreShort change.values × AreRising change.used) }
+/// The scalar is 2, and the queue has 5 and 6.
+fn new_values(alloc: Global) -> Result<Items<Replacement>, NoMemory>
+    ensures { IfOk result (λ values. AreShort values) }
 {
     let mut values = Items::<Replacement>::new(alloc);
     values.push(Replacement {
@@ -224,32 +308,60 @@ fn change(alloc: Global) -> Result<Change, NoMemory>
         prop: QUEUE,
         numbers: Items::from_slice(alloc, &[5, 6])?,
     })?;
+    Ok(values)
+}
+
+/// The values 1 and 4 of the scalar are used.
+fn used_values(alloc: Global) -> Result<Items<Replacement>, NoMemory>
+    ensures { IfOk result (λ used. AreRising used) }
+{
     let mut used = Items::<Replacement>::new(alloc);
     used.push(Replacement {
         prop: SCALAR,
         numbers: Items::from_slice(alloc, &[1, 4])?,
     })?;
+    Ok(used)
+}
+
+fn change(alloc: Global) -> Result<Change, NoMemory>
+    ensures { IfOk result (λ change. AreShort change.values × AreRising change.used) }
+{
+    let used = used_values(alloc)?;
+    let values = new_values(alloc)?;
     Ok(Change { values, used })
+}
+
+fn commit(alloc: Global, world: &mut World) -> Result<(), NoMemory> {
+    let change = change(alloc)?;
+    if world.is_made(OBJECT) {
+        world.commit(OBJECT, change);
+    }
+    Ok(())
+}
+
+fn is_replaced(world: &World) -> bool {
+    let numbers = [(SCALAR, 0, 2), (FIXED, 0, 0), (QUEUE, 0, 5), (QUEUE, 1, 6)];
+    has_sizes(world, &[1, 2, 2, 0])
+        && has_numbers(world, &numbers)
+        && world.used(OBJECT, SCALAR) == [1, 4].as_slice()
+        && world.used(OBJECT, QUEUE).is_empty()
+}
+
+fn is_new(world: &World) -> bool {
+    world.used(OBJECT, SCALAR).is_empty() && has_numbers(world, &[(SCALAR, 0, 7)])
+}
+
+/// Whether a change replaces what it names, until the object is made anew.
+fn is_changed(alloc: Global, world: &mut World) -> Result<bool, NoMemory> {
+    commit(alloc, world)?;
+    let is_replaced = is_replaced(world);
+    make(alloc, world)?;
+    Ok(is_replaced && is_new(world))
 }
 
 #[test]
 fn a_change_replaces_what_it_names(rt: HostRuntime) -> Result<(), Fail> {
-    let alloc = rt.alloc();
-    let mut world = made(&rt, alloc)?;
-    let change = change(alloc)?;
-    assert!(rt; world.is_made(OBJECT));
-    world.commit(OBJECT, change);
-    has_sizes(&rt, &world, [1, 2, 2, 0]);
-    has_numbers(
-        &rt,
-        &world,
-        &[(SCALAR, 0, 2), (FIXED, 0, 0), (QUEUE, 0, 5), (QUEUE, 1, 6)],
-    );
-    assert_eq!(rt; world.used(OBJECT, SCALAR), [1, 4].as_slice());
-    assert!(rt; world.used(OBJECT, QUEUE).is_empty());
-    let class = class(alloc)?;
-    world.make(alloc, OBJECT, &class)?;
-    assert!(rt; world.used(OBJECT, SCALAR).is_empty());
-    has_numbers(&rt, &world, &[(SCALAR, 0, 7)]);
+    let mut world = made(rt.alloc())?;
+    assert!(rt; is_changed(rt.alloc(), &mut world)?);
     Ok(())
 }

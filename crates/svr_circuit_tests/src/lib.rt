@@ -4,8 +4,10 @@
 #![tactic(auto)]
 
 #[cfg(test)]
+mod circuits;
+#[cfg(test)]
 mod gates;
 #[cfg(test)]
-mod shapes;
+mod numbers;
 #[cfg(test)]
-mod sums;
+mod valuations;

@@ -1,142 +1,133 @@
 // Types, classes and variables: their trees with their heights, or their faults. Numbers are those of tokens.
 
-use crate::shape::{expr, number, put, token};
-use crate::text::{put_fault, spelled};
-use sqlite_items::Items;
+use crate::text::{Told, is_told, spelled};
+use crate::wanted::Wanted;
 use std::alloc::Global;
 use svr_decl::{class, typedef, var, var_on};
 use svr_operator::Rand;
-use svr_reader::{Cursor, ReadFault};
+use svr_reader::Cursor;
 use svr_tree::{
     AtomKind, ClassDecl, ClassItem, ConstraintBlock, DataType, Declarator, Dimension, EnumDecl,
-    Expr, IntegerType, Item, MemberDecl, PackedRange, PropertyDecl, Signing, TypeDecl,
-    TypeDefinition, VarDecl, VarDeclarator, VarInit, VectorKind,
+    Expr, IntegerType, Item, PackedRange, PropertyDecl, Signing, TypeDecl, TypeDefinition, VarDecl,
+    VarDeclarator, VarInit, VectorKind,
 };
 
 // ---- types
 
-fn put_signing(out: &mut Vec<u8>, signing: Option<Signing>) {
-    match signing {
-        None => (),
-        Some(Signing::Signed) => put(out, b" signed"),
-        Some(Signing::Unsigned) => put(out, b" unsigned"),
-    }
-}
-
-fn put_packed(out: &mut Vec<u8>, range: &Option<PackedRange>) {
-    if let Some(range) = range {
-        put(out, b" [");
-        token(out, range.at);
-        put(out, b" ");
-        expr(out, &range.msb);
-        put(out, b":");
-        expr(out, &range.lsb);
-        put(out, b"]");
-    }
-}
-
-fn vector_word(kind: VectorKind) -> &'static [u8] {
-    match kind {
-        VectorKind::Bit => b" bit",
-        VectorKind::Logic => b" logic",
-        VectorKind::Reg => b" reg",
-    }
-}
-
-fn atom_word(kind: AtomKind) -> &'static [u8] {
-    match kind {
-        AtomKind::Byte => b" byte",
-        AtomKind::ShortInt => b" shortint",
-        AtomKind::Int => b" int",
-        AtomKind::LongInt => b" longint",
-        AtomKind::Integer => b" integer",
-    }
-}
-
-fn put_integer(out: &mut Vec<u8>, found: &IntegerType) {
-    match found {
-        IntegerType::Vector {
-            at,
-            kind,
-            signing,
-            range,
-        } => {
-            token(out, *at);
-            put(out, vector_word(*kind));
-            put_signing(out, *signing);
-            put_packed(out, range);
-        }
-        IntegerType::Atom { at, kind, signing } => {
-            token(out, *at);
-            put(out, atom_word(*kind));
-            put_signing(out, *signing);
+impl Wanted {
+    fn signing(self, signing: Option<Signing>) -> Wanted {
+        match signing {
+            None => self,
+            Some(Signing::Signed) => self.then(b" signed"),
+            Some(Signing::Unsigned) => self.then(b" unsigned"),
         }
     }
-}
 
-fn put_type(out: &mut Vec<u8>, found: &DataType) {
-    match found {
-        DataType::Integer(found) => put_integer(out, found),
-        DataType::Named(name) => {
-            put(out, b"named ");
-            token(out, *name);
+    fn packed(self, range: &Option<PackedRange>) -> Wanted {
+        match range {
+            Some(range) => {
+                let begun = self.then(b" [").token(range.at).then(b" ");
+                begun
+                    .expr(&range.msb)
+                    .then(b":")
+                    .expr(&range.lsb)
+                    .then(b"]")
+            }
+            None => self,
         }
     }
-}
 
-fn put_value(out: &mut Vec<u8>, value: &Option<Expr>) {
-    if let Some(value) = value {
-        put(out, b"=");
-        expr(out, value);
+    fn vector(self, kind: VectorKind) -> Wanted {
+        match kind {
+            VectorKind::Bit => self.then(b" bit"),
+            VectorKind::Logic => self.then(b" logic"),
+            VectorKind::Reg => self.then(b" reg"),
+        }
     }
-}
 
-fn put_high(out: &mut Vec<u8>, height: usize) {
-    put(out, b" high ");
-    number(out, height);
+    fn atom(self, kind: AtomKind) -> Wanted {
+        match kind {
+            AtomKind::Byte => self.then(b" byte"),
+            AtomKind::ShortInt => self.then(b" shortint"),
+            AtomKind::Int => self.then(b" int"),
+            AtomKind::LongInt => self.then(b" longint"),
+            AtomKind::Integer => self.then(b" integer"),
+        }
+    }
+
+    fn integer(self, found: &IntegerType) -> Wanted {
+        match found {
+            IntegerType::Vector {
+                at,
+                kind,
+                signing,
+                range,
+            } => self
+                .token(*at)
+                .vector(*kind)
+                .signing(*signing)
+                .packed(range),
+            IntegerType::Atom { at, kind, signing } => {
+                self.token(*at).atom(*kind).signing(*signing)
+            }
+        }
+    }
+
+    fn data_type(self, found: &DataType) -> Wanted {
+        match found {
+            DataType::Integer(found) => self.integer(found),
+            DataType::Named(name) => self.then(b"named ").token(*name),
+        }
+    }
+
+    fn value(self, value: &Option<Expr>) -> Wanted {
+        match value {
+            Some(value) => self.then(b"=").expr(value),
+            None => self,
+        }
+    }
 }
 
 // ---- variables
 
-fn put_declared(out: &mut Vec<u8>, found: &VarDeclarator) {
-    put(out, b" ");
-    token(out, found.name);
-    match &found.init {
-        None => (),
-        Some(VarInit::Value(value)) => {
-            put(out, b"=");
-            expr(out, value);
+impl Wanted {
+    fn start(self, init: &Option<VarInit>) -> Wanted {
+        match init {
+            None => self,
+            Some(VarInit::Value(value)) => self.then(b"=").expr(value),
+            Some(VarInit::New { parens: true }) => self.then(b"=new()"),
+            Some(VarInit::New { parens: false }) => self.then(b"=new"),
         }
-        Some(VarInit::New { parens: true }) => put(out, b"=new()"),
-        Some(VarInit::New { parens: false }) => put(out, b"=new"),
+    }
+
+    fn variables(self, found: &[VarDeclarator]) -> Wanted {
+        let mut wanted = self;
+        for one in found {
+            wanted = wanted.then(b" ").token(one.name).start(&one.init);
+        }
+        wanted
     }
 }
 
-fn var_shape(alloc: Global, found: Result<(VarDecl, usize), ReadFault>) -> Vec<u8> {
-    let mut out = Vec::new(alloc);
-    match &found {
-        Ok((found, height)) => {
-            put_type(&mut out, &found.kind);
-            for one in found.vars.as_slice() {
-                put_declared(&mut out, one);
-            }
-            put_high(&mut out, *height);
-        }
-        Err(fault) => put_fault(&mut out, *fault),
+impl Told for VarDecl {
+    fn told(&self, wanted: Wanted, height: usize, _left: usize) -> Wanted {
+        let declared = wanted.data_type(&self.kind).variables(self.vars.as_slice());
+        declared.then(b" high ").number(height)
     }
-    out
 }
 
-fn read_var(alloc: Global, text: &[u8], room: usize) -> Vec<u8> {
+fn is_var(alloc: Global, text: &[u8], room: usize, wanted: &'static [u8]) -> bool {
     let lexemes = spelled(alloc, text);
     let mut cursor = Cursor::new(&lexemes);
-    var_shape(alloc, var(alloc, &mut cursor, room))
+    let found = var(alloc, &mut cursor, room);
+    is_told(found, cursor.left(), wanted)
 }
 
-fn read_var_on(alloc: Global, text: &[u8], room: usize, name: u32) -> Vec<u8> {
+fn is_var_on(alloc: Global, text: &[u8], name: u32, wanted: &'static [u8]) -> bool {
     let lexemes = spelled(alloc, text);
     let mut cursor = Cursor::new(&lexemes);
-    var_shape(alloc, var_on(alloc, &mut cursor, room, name))
+    let found = var_on(alloc, &mut cursor, 2, name);
+    is_told(found, cursor.left(), wanted)
 }
 
 const VARIABLES: [(&[u8], usize, &[u8]); 15] = [
@@ -164,52 +155,42 @@ const VARIABLES: [(&[u8], usize, &[u8]); 15] = [
 #[test]
 fn variables(rt: HostRuntime) {
     for (text, room, wanted) in VARIABLES {
-        assert!(rt; read_var(rt.alloc(), text, room).as_slice() == wanted);
+        assert!(rt; is_var(rt.alloc(), text, room, wanted));
     }
-    let named = read_var_on(rt.alloc(), b"a = new();", 2, 7);
-    assert!(rt; named.as_slice() == b"named 7 0=new() high 0".as_slice());
+    assert!(rt; is_var_on(rt.alloc(), b"a = new();", 7, b"named 7 0=new() high 0"));
 }
 
 // ---- typedefs
 
-fn put_member(out: &mut Vec<u8>, found: &MemberDecl) {
-    put(out, b" ");
-    token(out, found.name);
-    put_value(out, &found.value);
-}
-
-fn put_enum(out: &mut Vec<u8>, found: &EnumDecl) {
-    put(out, b"enum ");
-    if let Some(base) = &found.base {
-        put_integer(out, base);
-    }
-    put(out, b" {");
-    for member in found.members.as_slice() {
-        put_member(out, member);
-    }
-    put(out, b" }");
-}
-
-fn typedef_shape(alloc: Global, found: Result<(TypeDecl, usize), ReadFault>) -> Vec<u8> {
-    let mut out = Vec::new(alloc);
-    match &found {
-        Ok((found, _)) => {
-            match &found.definition {
-                TypeDefinition::Integer(plain) => put_integer(&mut out, plain),
-                TypeDefinition::Enum(list) => put_enum(&mut out, list),
-            }
-            put(&mut out, b" ");
-            token(&mut out, found.name);
+impl Wanted {
+    fn enumeration(self, found: &EnumDecl) -> Wanted {
+        let begun = self.then(b"enum ");
+        let mut wanted = match &found.base {
+            Some(base) => begun.integer(base).then(b" {"),
+            None => begun.then(b" {"),
+        };
+        for member in found.members.as_slice() {
+            wanted = wanted.then(b" ").token(member.name).value(&member.value);
         }
-        Err(fault) => put_fault(&mut out, *fault),
+        wanted.then(b" }")
     }
-    out
 }
 
-fn read_typedef(alloc: Global, text: &[u8]) -> Vec<u8> {
+impl Told for TypeDecl {
+    fn told(&self, wanted: Wanted, _height: usize, _left: usize) -> Wanted {
+        let defined = match &self.definition {
+            TypeDefinition::Integer(plain) => wanted.integer(plain),
+            TypeDefinition::Enum(list) => wanted.enumeration(list),
+        };
+        defined.then(b" ").token(self.name)
+    }
+}
+
+fn is_typedef(alloc: Global, text: &[u8], wanted: &'static [u8]) -> bool {
     let lexemes = spelled(alloc, text);
     let mut cursor = Cursor::new(&lexemes);
-    typedef_shape(alloc, typedef(alloc, &mut cursor, 2))
+    let found = typedef(alloc, &mut cursor, 2);
+    is_told(found, cursor.left(), wanted)
 }
 
 const TYPEDEFS: [(&[u8], &[u8]); 5] = [
@@ -226,107 +207,95 @@ const TYPEDEFS: [(&[u8], &[u8]); 5] = [
 #[test]
 fn typedefs(rt: HostRuntime) {
     for (text, wanted) in TYPEDEFS {
-        assert!(rt; read_typedef(rt.alloc(), text).as_slice() == wanted);
+        assert!(rt; is_typedef(rt.alloc(), text, wanted));
     }
 }
 
 // ---- classes
 
-fn put_dimension(out: &mut Vec<u8>, dim: &Dimension) {
-    match dim {
-        Dimension::Dynamic => put(out, b"[]"),
-        Dimension::Queue => put(out, b"[$]"),
-        Dimension::Size(size) => {
-            put(out, b"[");
-            expr(out, size);
-            put(out, b"]");
-        }
-        Dimension::Bounds(first, last) => {
-            put(out, b"[");
-            expr(out, first);
-            put(out, b":");
-            expr(out, last);
-            put(out, b"]");
-        }
-    }
-}
-
-fn put_declarator(out: &mut Vec<u8>, found: &Declarator) {
-    put(out, b" ");
-    token(out, found.name);
-    for dim in found.dims.as_slice() {
-        put_dimension(out, dim);
-    }
-    put_value(out, &found.value);
-}
-
-fn put_property(out: &mut Vec<u8>, found: &PropertyDecl) {
-    match found.rand {
-        Rand::State => put(out, b" state "),
-        Rand::Rand => put(out, b" rand "),
-        Rand::Randc => put(out, b" randc "),
-    }
-    put_type(out, &found.kind);
-    for one in found.decls.as_slice() {
-        put_declarator(out, one);
-    }
-    put(out, b";");
-}
-
-fn put_first(out: &mut Vec<u8>, items: &Items<Item>) {
-    match items.get(0) {
-        Some(Item::Plain { expr: value, .. }) => expr(out, value),
-        _ => (),
-    }
-}
-
-// its name, how many items it has, and the expression of the first one
-fn put_block(out: &mut Vec<u8>, found: &ConstraintBlock) {
-    put(out, b" constraint ");
-    token(out, found.name);
-    put(out, b" {");
-    number(out, found.items.len());
-    put(out, b": ");
-    put_first(out, &found.items);
-    put(out, b"}");
-}
-
-fn put_class_item(out: &mut Vec<u8>, found: &ClassItem) {
-    match found {
-        ClassItem::Property(list) => put_property(out, list),
-        ClassItem::Constraint(block) => put_block(out, block),
-    }
-}
-
-fn put_word(out: &mut Vec<u8>, word: &[u8], name: Option<u32>) {
-    if let Some(name) = name {
-        put(out, word);
-        token(out, name);
-    }
-}
-
-fn class_shape(alloc: Global, found: Result<(ClassDecl, usize), ReadFault>) -> Vec<u8> {
-    let mut out = Vec::new(alloc);
-    match &found {
-        Ok((found, height)) => {
-            token(&mut out, found.name);
-            put_word(&mut out, b" extends ", found.base);
-            put(&mut out, b";");
-            for item in found.items.as_slice() {
-                put_class_item(&mut out, item);
+impl Wanted {
+    fn dimension(self, dim: &Dimension) -> Wanted {
+        match dim {
+            Dimension::Dynamic => self.then(b"[]"),
+            Dimension::Queue => self.then(b"[$]"),
+            Dimension::Size(size) => self.then(b"[").expr(size).then(b"]"),
+            Dimension::Bounds(first, last) => {
+                self.then(b"[").expr(first).then(b":").expr(last).then(b"]")
             }
-            put_word(&mut out, b" : ", found.label);
-            put_high(&mut out, *height);
         }
-        Err(fault) => put_fault(&mut out, *fault),
     }
-    out
+
+    fn declarator(self, found: &Declarator) -> Wanted {
+        let mut wanted = self.then(b" ").token(found.name);
+        for dim in found.dims.as_slice() {
+            wanted = wanted.dimension(dim);
+        }
+        wanted.value(&found.value)
+    }
+
+    fn rand(self, rand: Rand) -> Wanted {
+        match rand {
+            Rand::State => self.then(b" state "),
+            Rand::Rand => self.then(b" rand "),
+            Rand::Randc => self.then(b" randc "),
+        }
+    }
+
+    fn property(self, found: &PropertyDecl) -> Wanted {
+        let mut wanted = self.rand(found.rand).data_type(&found.kind);
+        for one in found.decls.as_slice() {
+            wanted = wanted.declarator(one);
+        }
+        wanted.then(b";")
+    }
+
+    // its name, how many items it has, and the expression of the first one
+    fn block(self, found: &ConstraintBlock) -> Wanted {
+        let named = self.then(b" constraint ").token(found.name).then(b" {");
+        let counted = named.number(found.items.len()).then(b": ");
+        match found.items.get(0) {
+            Some(Item::Plain { expr, .. }) => counted.expr(expr).then(b"}"),
+            _ => counted.then(b"}"),
+        }
+    }
+
+    fn class_items(self, items: &[ClassItem]) -> Wanted {
+        let mut wanted = self;
+        for item in items {
+            wanted = match item {
+                ClassItem::Property(list) => wanted.property(list),
+                ClassItem::Constraint(block) => wanted.block(block),
+            };
+        }
+        wanted
+    }
+
+    fn name(self, word: &[u8], name: Option<u32>) -> Wanted {
+        match name {
+            Some(name) => self.then(word).token(name),
+            None => self,
+        }
+    }
 }
 
-fn read_class(alloc: Global, text: &[u8]) -> Vec<u8> {
+impl Told for ClassDecl {
+    fn told(&self, wanted: Wanted, height: usize, _left: usize) -> Wanted {
+        let begun = wanted
+            .token(self.name)
+            .name(b" extends ", self.base)
+            .then(b";");
+        let ended = begun
+            .class_items(self.items.as_slice())
+            .name(b" : ", self.label);
+        ended.then(b" high ").number(height)
+    }
+}
+
+fn is_class(alloc: Global, text: &[u8], wanted: &'static [u8]) -> bool {
     let lexemes = spelled(alloc, text);
     let mut cursor = Cursor::new(&lexemes);
-    class_shape(alloc, class(alloc, &mut cursor, 3))
+    let found = class(alloc, &mut cursor, 3);
+    is_told(found, cursor.left(), wanted)
 }
 
 const CLASSES: [(&[u8], &[u8]); 13] = [
@@ -366,6 +335,6 @@ const CLASSES: [(&[u8], &[u8]); 13] = [
 #[test]
 fn classes(rt: HostRuntime) {
     for (text, wanted) in CLASSES {
-        assert!(rt; read_class(rt.alloc(), text).as_slice() == wanted);
+        assert!(rt; is_class(rt.alloc(), text, wanted));
     }
 }

@@ -1,7 +1,7 @@
 // Expressions: the operator of each with its operands, heights and faults.
 
-use crate::shape::{expr as put_expr, number, put, token};
-use crate::text::{put_fault, spelled};
+use crate::text::{Told, height_of, is_told, spelled};
+use crate::wanted::Wanted;
 use std::alloc::Global;
 use svr_expr::{expr, exprs, known_path, member, range, rest_of_operand, rest_of_path};
 use svr_operator::Fold;
@@ -60,125 +60,127 @@ const BEHIND_PATHS: [Row; 3] = [
     (b"n.n()", 9, b"0.2(), high 1, left 0"),
 ];
 
-fn fold_word(op: Fold) -> &'static [u8] {
-    match op {
-        Fold::Sum => b" sum",
-        Fold::Product => b" product",
-        Fold::And => b" and",
-        Fold::Or => b" or",
-        Fold::Xor => b" xor",
+impl Wanted {
+    /// Tells the name of a reduction behind a blank.
+    pub fn fold(self, op: Fold) -> Wanted {
+        match op {
+            Fold::Sum => self.then(b" sum"),
+            Fold::Product => self.then(b" product"),
+            Fold::And => self.then(b" and"),
+            Fold::Or => self.then(b" or"),
+            Fold::Xor => self.then(b" xor"),
+        }
     }
-}
 
-fn put_argument(out: &mut Vec<u8>, item: IteratorArgument) {
-    match item {
-        IteratorArgument::Absent => {}
-        IteratorArgument::Empty => put(out, b"()"),
-        IteratorArgument::Named(name) => {
-            put(out, b"(");
-            token(out, name);
-            put(out, b")");
+    fn argument(self, item: IteratorArgument) -> Wanted {
+        match item {
+            IteratorArgument::Absent => self,
+            IteratorArgument::Empty => self.then(b"()"),
+            IteratorArgument::Named(name) => self.then(b"(").token(name).then(b")"),
         }
     }
 }
 
-fn put_tree(out: &mut Vec<u8>, found: &Expr) {
-    match found {
-        Expr::Reduce {
-            at,
-            array,
-            op,
-            item,
-            body,
-        } => {
-            token(out, *at);
-            put(out, fold_word(*op));
-            put_argument(out, *item);
-            put(out, b" of ");
-            put_expr(out, array.get());
-            put(out, b": ");
-            put_expr(out, body.get());
+impl Wanted {
+    // a reduction or an operator with its operands
+    fn operation(self, found: &Expr) -> Wanted {
+        match found {
+            Expr::Reduce {
+                at,
+                array,
+                op,
+                item,
+                body,
+            } => {
+                let named = self.token(*at).fold(*op).argument(*item);
+                named
+                    .then(b" of ")
+                    .expr(array.get())
+                    .then(b": ")
+                    .expr(body.get())
+            }
+            Expr::Binary { left, right, .. } => {
+                self.expr(found)
+                    .then(b" ")
+                    .expr(left.get())
+                    .then(b" ")
+                    .expr(right.get())
+            }
+            _ => self.expr(found),
         }
-        Expr::Binary { left, right, .. } => {
-            put_expr(out, found);
-            put(out, b" ");
-            put_expr(out, left.get());
-            put(out, b" ");
-            put_expr(out, right.get());
-        }
-        other => put_expr(out, other),
     }
 }
 
-fn outcome(alloc: Global, found: Result<(Expr, usize), ReadFault>, left: usize) -> Vec<u8> {
-    let mut out = Vec::new(alloc);
-    match found {
-        Ok((tree, height)) => {
-            put_tree(&mut out, &tree);
-            put(&mut out, b", high ");
-            number(&mut out, height);
-            put(&mut out, b", left ");
-            number(&mut out, left);
-        }
-        Err(fault) => put_fault(&mut out, fault),
+impl Told for Expr {
+    fn told(&self, wanted: Wanted, height: usize, left: usize) -> Wanted {
+        let high = wanted.operation(self).then(b", high ").number(height);
+        high.then(b", left ").number(left)
     }
-    out
 }
 
-fn whole(alloc: Global, text: &[u8], room: usize) -> Vec<u8> {
+fn is_read(alloc: Global, text: &[u8], room: usize, wanted: &'static [u8]) -> bool {
     let lexemes = spelled(alloc, text);
     let mut cursor = Cursor::new(&lexemes);
     let found = expr(alloc, &mut cursor, room, level::IMPLICATION);
-    outcome(alloc, found, cursor.left())
+    is_told(found, cursor.left(), wanted)
 }
 
 #[test]
 fn expressions(rt: HostRuntime) {
     for (text, room, wanted) in OPERATORS {
-        assert!(rt; whole(rt.alloc(), text, room).as_slice() == wanted);
+        assert!(rt; is_read(rt.alloc(), text, room, wanted));
     }
-}
-
-#[test]
-fn reductions(rt: HostRuntime) {
     for (text, room, wanted) in REDUCTIONS {
-        assert!(rt; whole(rt.alloc(), text, room).as_slice() == wanted);
+        assert!(rt; is_read(rt.alloc(), text, room, wanted));
     }
 }
 
 // an expression whose first path is read before the rest
-fn in_two_parts(alloc: Global, text: &[u8], room: usize) -> Vec<u8> {
+fn is_read_in_two(alloc: Global, text: &[u8], room: usize, wanted: &'static [u8]) -> bool {
+    if room == 0 {
+        return false;
+    }
     let lexemes = spelled(alloc, text);
     let mut cursor = Cursor::new(&lexemes);
     let found = match known_path(alloc, &mut cursor, room) {
-        Ok((path, kind)) if room > 0 => { rest_of_path(alloc, &mut cursor, room, 0, path, kind) }
-        Ok((path, _)) => Ok((path, 1)),
+        Ok((path, kind)) => rest_of_path(alloc, &mut cursor, room, 0, path, kind),
         Err(fault) => Err(fault),
     };
-    outcome(alloc, found, cursor.left())
+    is_told(found, cursor.left(), wanted)
 }
 
 #[test]
 fn behind_a_path(rt: HostRuntime) {
     for (text, room, wanted) in BEHIND_PATHS {
-        assert!(rt; in_two_parts(rt.alloc(), text, room).as_slice() == wanted);
+        assert!(rt; is_read_in_two(rt.alloc(), text, room, wanted));
     }
 }
 
-// the heights of a list, of a range, and of a member with an operator behind it
-fn part_heights(alloc: Global) -> Result<(usize, usize, usize), ReadFault> {
+fn list_height(alloc: Global) -> Result<usize, ReadFault> {
     let list = spelled(alloc, b"n, n");
-    let (_, first) = exprs(alloc, &mut Cursor::new(&list), 1)?;
+    height_of(exprs(alloc, &mut Cursor::new(&list), 1))
+}
+
+fn span_height(alloc: Global) -> Result<usize, ReadFault> {
     let span = spelled(alloc, b"[n : $]");
-    let (_, second) = range(alloc, &mut Cursor::new(&span), 1)?;
+    height_of(range(alloc, &mut Cursor::new(&span), 1))
+}
+
+// of a member with an operator behind it
+fn sum_height(alloc: Global) -> Result<usize, ReadFault> {
     let sum = spelled(alloc, b"n[n] + n");
     let mut cursor = Cursor::new(&sum);
-    let (operand, height) = member(alloc, &mut cursor, 9)?;
-    let (_, third) = rest_of_operand(alloc, &mut cursor, 9, 0, operand, height.min(9))?;
-    Ok((first, second, third))
+    match member(alloc, &mut cursor, 9) {
+        Ok((operand, height)) => {
+            height_of(rest_of_operand(alloc, &mut cursor, 9, 0, operand, height.min(9)))
+        }
+        Err(fault) => Err(fault),
+    }
 }
 
 #[test]
 fn parts(rt: HostRuntime) {
-    assert_eq!(rt; part_heights(rt.alloc()), Ok((1, 1, 3)));
+    assert!(rt; list_height(rt.alloc()) == Ok(1));
+    assert!(rt; span_height(rt.alloc()) == Ok(1));
+    assert!(rt; sum_height(rt.alloc()) == Ok(3));
 }

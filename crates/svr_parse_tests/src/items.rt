@@ -1,13 +1,13 @@
 // Items: the tree of one item, heights and faults of the items of a block and of a set.
 
-use crate::shape::{expr, number, put, token};
-use crate::text::{put_fault, spelled};
+use crate::text::{Told, is_told, spelled};
+use crate::wanted::Wanted;
 use sqlite_items::Items;
 use std::alloc::Global;
 use svr_item::{block_item, block_items, item, set_items};
 use svr_operator::Share;
-use svr_reader::{Cursor, ReadFault};
-use svr_tree::{Dist, DistItem, Expr, Item, Set};
+use svr_reader::Cursor;
+use svr_tree::{Dist, Expr, Item, Set};
 
 type Row = (&'static [u8], usize, &'static [u8]);
 
@@ -68,48 +68,45 @@ const LED: [Row; 16] = [
     (b"disable soft n; }", 1, b"deep 5"),
 ];
 
-fn outcome(alloc: Global, found: Result<(Items<Item>, usize), ReadFault>, left: usize) -> Vec<u8> {
-    let mut out = Vec::new(alloc);
-    match found {
-        Ok((_, height)) => {
-            put(&mut out, b"high ");
-            number(&mut out, height);
-            put(&mut out, b", left ");
-            number(&mut out, left);
-        }
-        Err(fault) => put_fault(&mut out, fault),
+// items by their height and the number of tokens left
+impl Told for Items<Item> {
+    fn told(&self, wanted: Wanted, height: usize, left: usize) -> Wanted {
+        wanted
+            .then(b"high ")
+            .number(height)
+            .then(b", left ")
+            .number(left)
     }
-    out
 }
 
-fn in_block(alloc: Global, text: &[u8], room: usize) -> Vec<u8> {
+fn is_block(alloc: Global, text: &[u8], room: usize, wanted: &'static [u8]) -> bool {
     let lexemes = spelled(alloc, text);
     let mut cursor = Cursor::new(&lexemes);
     let found = block_items(alloc, &mut cursor, room);
-    outcome(alloc, found, cursor.left())
+    is_told(found, cursor.left(), wanted)
 }
 
-fn in_set(alloc: Global, text: &[u8], room: usize) -> Vec<u8> {
+fn is_set(alloc: Global, text: &[u8], room: usize, wanted: &'static [u8]) -> bool {
     let lexemes = spelled(alloc, text);
     let mut cursor = Cursor::new(&lexemes);
     let found = set_items(alloc, &mut cursor, room);
-    outcome(alloc, found, cursor.left())
+    is_told(found, cursor.left(), wanted)
 }
 
 #[test]
 fn items_of_blocks(rt: HostRuntime) {
     for (text, room, wanted) in BLOCKS {
-        assert!(rt; in_block(rt.alloc(), text, room).as_slice() == wanted);
+        assert!(rt; is_block(rt.alloc(), text, room, wanted));
     }
 }
 
 #[test]
 fn items_of_sets(rt: HostRuntime) {
     for (text, room, wanted) in STATED {
-        assert!(rt; in_set(rt.alloc(), text, room).as_slice() == wanted);
+        assert!(rt; is_set(rt.alloc(), text, room, wanted));
     }
     for (text, room, wanted) in LED {
-        assert!(rt; in_set(rt.alloc(), text, room).as_slice() == wanted);
+        assert!(rt; is_set(rt.alloc(), text, room, wanted));
     }
 }
 
@@ -134,145 +131,110 @@ fn body(item: &Item) -> Option<&Set> {
     }
 }
 
-fn put_weight(out: &mut Vec<u8>, member: &DistItem) {
-    match &member.weight {
-        Some((Share::Each, _)) => put(out, b" :="),
-        Some((Share::Whole, _)) => put(out, b" :/"),
-        None => put(out, b" none"),
+impl Wanted {
+    fn dist(self, dist: &Option<Dist>) -> Wanted {
+        let Some(dist) = dist else { return self };
+        let mut wanted = self.then(b" dist ").token(dist.at);
+        for member in dist.items.as_slice() {
+            wanted = match &member.weight {
+                Some((Share::Each, _)) => wanted.then(b" :="),
+                Some((Share::Whole, _)) => wanted.then(b" :/"),
+                None => wanted.then(b" none"),
+            };
+        }
+        wanted
     }
-}
 
-fn put_dist(out: &mut Vec<u8>, dist: &Dist) {
-    put(out, b" dist ");
-    token(out, dist.at);
-    for member in dist.items.as_slice() {
-        put_weight(out, member);
+    fn plain(self, soft: bool, value: &Expr, dist: &Option<Dist>) -> Wanted {
+        let begun = if soft { self.then(b"soft ") } else { self };
+        begun.expr(value).dist(dist)
     }
-}
 
-fn put_plain(out: &mut Vec<u8>, at: u32, soft: bool, value: &Expr, dist: &Option<Dist>) {
-    token(out, at);
-    put(out, b": ");
-    if soft {
-        put(out, b"soft ");
+    fn brace(self, set: &Set) -> Wanted {
+        if set.braces { self.then(b"{}") } else { self }
     }
-    expr(out, value);
-    if let Some(dist) = dist {
-        put_dist(out, dist);
-    }
-}
 
-// the item that stands alone behind `else`, without its own sets
-fn put_else(out: &mut Vec<u8>, no: &Option<Set>) {
-    if let Some(set) = no {
-        put(out, b" else ");
-        put_brace(out, set);
-        if let Some(
+    // the item that stands alone behind `else`, without its own sets
+    fn no(self, no: &Option<Set>) -> Wanted {
+        let Some(set) = no else { return self };
+        let begun = self.then(b" else ").brace(set);
+        match single(set) {
+            Some(
+                Item::Plain {
+                    at,
+                    soft,
+                    expr,
+                    dist,
+                },
+            ) => begun.token(*at).then(b": ").plain(*soft, expr, dist),
+            _ => begun,
+        }
+    }
+
+    // an item without its number and the set that it is about
+    fn kind(self, item: &Item) -> Wanted {
+        match item {
             Item::Plain {
-                at,
                 soft,
                 expr,
                 dist,
-            },
-        ) = single(set)
-        {
-            put_plain(out, *at, *soft, expr, dist);
+                ..
+            } => self.plain(*soft, expr, dist),
+            Item::Unique { members, .. } => self.then(b"unique ").number(members.len()),
+            Item::Implies { test, body, .. } => self.expr(test).then(b" -> ").brace(body),
+            Item::Branch { test, yes, no, .. } => {
+                self.then(b"if ")
+                    .expr(test)
+                    .no(no)
+                    .then(b" then ")
+                    .brace(yes)
+            }
+            Item::Foreach {
+                array,
+                vars,
+                body,
+                ..
+            } => {
+                let begun = self.then(b"foreach ").expr(array).then(b"[");
+                begun.tokens(vars.as_slice(), b",").then(b"] ").brace(body)
+            }
+            Item::Disable { target, .. } => self.then(b"disable ").expr(target),
+            Item::Solve { first, later, .. } => {
+                self.then(b"solve ")
+                    .number(first.len())
+                    .then(b" before ")
+                    .number(later.len())
+            }
         }
     }
 }
 
-fn put_brace(out: &mut Vec<u8>, set: &Set) {
-    if set.braces {
-        put(out, b"{}");
-    }
-}
-
-// loop variables, with commas between them
-fn put_vars(out: &mut Vec<u8>, vars: &[u32]) {
-    let mut first = true;
-    for var in vars {
-        if !first {
-            put(out, b",");
-        }
-        token(out, *var);
-        first = false;
-    }
-}
-
-// an item without the set that it is about
-fn put_item(out: &mut Vec<u8>, item: &Item) {
+// the token with which an item begins
+fn first_token(item: &Item) -> u32 {
     match item {
-        Item::Plain {
-            at,
-            soft,
-            expr,
-            dist,
-        } => put_plain(out, *at, *soft, expr, dist),
-        Item::Unique { at, members } => {
-            token(out, *at);
-            put(out, b": unique ");
-            number(out, members.len());
-        }
-        Item::Implies { at, test, body } => {
-            token(out, *at);
-            put(out, b": ");
-            expr(out, test);
-            put(out, b" -> ");
-            put_brace(out, body);
-        }
-        Item::Branch { at, test, yes, no } => {
-            token(out, *at);
-            put(out, b": if ");
-            expr(out, test);
-            put_else(out, no);
-            put(out, b" then ");
-            put_brace(out, yes);
-        }
-        Item::Foreach {
-            at,
-            array,
-            vars,
-            body,
-        } => {
-            token(out, *at);
-            put(out, b": foreach ");
-            expr(out, array);
-            put(out, b"[");
-            put_vars(out, vars.as_slice());
-            put(out, b"] ");
-            put_brace(out, body);
-        }
-        Item::Disable { at, target } => {
-            token(out, *at);
-            put(out, b": disable ");
-            expr(out, target);
-        }
-        Item::Solve { at, first, later } => {
-            token(out, *at);
-            put(out, b": solve ");
-            number(out, first.len());
-            put(out, b" before ");
-            number(out, later.len());
-        }
+        Item::Plain { at, .. }
+        | Item::Unique { at, .. }
+        | Item::Implies { at, .. }
+        | Item::Branch { at, .. }
+        | Item::Foreach { at, .. }
+        | Item::Disable { at, .. }
+        | Item::Solve { at, .. } => *at,
     }
 }
 
 // an item, the one item of the set that it is about, and so on
-fn item_shape(alloc: Global, found: Result<(Item, usize), ReadFault>) -> Vec<u8> {
-    let mut out = Vec::new(alloc);
-    match &found {
-        Ok((item, _)) => {
-            let mut next = Some(item);
-            for _level in 0..4 {
-                if let Some(item) = next {
-                    put_item(&mut out, item);
-                    next = body(item).and_then(single);
-                }
+impl Told for Item {
+    fn told(&self, wanted: Wanted, _height: usize, _left: usize) -> Wanted {
+        let mut wanted = wanted;
+        let mut next = Some(self);
+        for _level in 0..4 {
+            if let Some(item) = next {
+                wanted = wanted.token(first_token(item)).then(b": ").kind(item);
+                next = body(item).and_then(single);
             }
         }
-        Err(fault) => put_fault(&mut out, *fault),
+        wanted
     }
-    out
 }
 
 // an item, and its tree: each expression by its first token
@@ -293,23 +255,24 @@ const TREES: [(&[u8], &[u8]); 8] = [
     ),
 ];
 
-fn tree(alloc: Global, text: &[u8]) -> Vec<u8> {
+fn is_item(alloc: Global, text: &[u8], wanted: &'static [u8]) -> bool {
     let lexemes = spelled(alloc, text);
     let mut cursor = Cursor::new(&lexemes);
-    item_shape(alloc, item(alloc, &mut cursor, 128))
+    let found = item(alloc, &mut cursor, 128);
+    is_told(found, cursor.left(), wanted)
 }
 
-fn block_tree(alloc: Global, text: &[u8]) -> Vec<u8> {
+fn is_block_item(alloc: Global, text: &[u8], wanted: &'static [u8]) -> bool {
     let lexemes = spelled(alloc, text);
     let mut cursor = Cursor::new(&lexemes);
-    item_shape(alloc, block_item(alloc, &mut cursor, 128))
+    let found = block_item(alloc, &mut cursor, 128);
+    is_told(found, cursor.left(), wanted)
 }
 
 #[test]
 fn trees_of_items(rt: HostRuntime) {
     for (text, wanted) in TREES {
-        assert!(rt; tree(rt.alloc(), text).as_slice() == wanted);
+        assert!(rt; is_item(rt.alloc(), text, wanted));
     }
-    let solved = block_tree(rt.alloc(), b"solve n before n, n;");
-    assert!(rt; solved.as_slice() == b"0: solve 1 before 2".as_slice());
+    assert!(rt; is_block_item(rt.alloc(), b"solve n before n, n;", b"0: solve 1 before 2"));
 }

@@ -12,8 +12,8 @@ mod items;
 #[cfg(test)]
 mod scripts;
 #[cfg(test)]
-mod shape;
-#[cfg(test)]
 mod statements;
 #[cfg(test)]
 mod text;
+#[cfg(test)]
+mod wanted;

@@ -1,6 +1,6 @@
 // Whole scripts: the kinds of their items and statements, their declarations, and their faults.
 
-use crate::shape::{number, put};
+use crate::wanted::Wanted;
 use std::alloc::Global;
 use svr_lex::lex;
 use svr_operator::{BinOp, Fold};
@@ -11,6 +11,45 @@ use svr_tree::{
     ModeKind, PropertyDecl, RandomizeArgs, RandomizeCall, RightSide, Script, Stmt, Top, UnitDecl,
     UnitKind, VarDecl, VarInit,
 };
+
+/// What is told of a script.
+#[derive(Clone, Copy)]
+enum Look {
+    /// The only item of the only block of its first class.
+    Item,
+    /// How many variables it has, and its only statement.
+    Stmt,
+    /// Its declarations.
+    Whole,
+}
+
+/// What can be looked at.
+trait Shown {
+    /// Tells what the look sees.
+    fn shown(&self, look: Look, wanted: Wanted) -> Wanted;
+}
+
+impl Shown for Script {
+    fn shown(&self, look: Look, wanted: Wanted) -> Wanted {
+        match look {
+            Look::Item => wanted.first_class(self),
+            Look::Stmt => wanted.only_stmt(&self.unit),
+            Look::Whole => wanted.whole(self),
+        }
+    }
+}
+
+/// Whether just the wanted text tells what the look sees of a script. The script is let go here, whatever it is, so that no other function has to.
+fn is_shown<T: Shown + Drop>(
+    found: Result<T, ParseError>,
+    look: Look,
+    wanted: &'static [u8],
+) -> bool {
+    match &found {
+        Ok(script) => script.shown(look, Wanted::new(wanted)).is_met(),
+        Err(_) => false,
+    }
+}
 
 // The script of a text, or its fault.
 fn read(alloc: Global, text: &[u8]) -> Result<Script, ParseError> {
@@ -23,26 +62,17 @@ fn read(alloc: Global, text: &[u8]) -> Result<Script, ParseError> {
     }
 }
 
-fn joined(alloc: Global, front: &[u8], middle: &[u8], rest: &[u8]) -> Vec<u8> {
-    let mut text = Vec::new(alloc);
-    put(&mut text, front);
-    put(&mut text, middle);
-    put(&mut text, rest);
-    text
+fn fault(alloc: Global, text: &[u8]) -> Option<ParseError> {
+    read(alloc, text).err()
 }
 
-fn put_fault(out: &mut Vec<u8>, fault: ParseError) {
-    match fault {
-        ParseError::Unexpected { token } => {
-            put(out, b"unexpected ");
-            number(out, token as usize);
-        }
-        ParseError::TooDeep { token } => {
-            put(out, b"deep ");
-            number(out, token as usize);
-        }
-        ParseError::NoMemory => put(out, b"no memory"),
+/// The parts in a row. Where there is no memory one is left out, and the script is another.
+fn joined(alloc: Global, parts: [&[u8]; 3]) -> Vec<u8> {
+    let mut text = Vec::new(alloc);
+    for part in parts {
+        let _unmet = text.extend_from_slice(part).is_err();
     }
+    text
 }
 
 // ---- items
@@ -52,101 +82,75 @@ const ITEM_FRONT: &[u8] = b"class P; rand bit [3:0] a; rand bit b; constraint c 
 const ITEM_REST: &[u8] =
     b"} endclass module m; initial begin P p = new; p.randomize(); end endmodule";
 
-fn put_reduction(out: &mut Vec<u8>, op: Fold, item: IteratorArgument) {
-    match op {
-        Fold::Sum => put(out, b"reduce sum"),
-        Fold::Product => put(out, b"reduce product"),
-        Fold::And => put(out, b"reduce and"),
-        Fold::Or => put(out, b"reduce or"),
-        Fold::Xor => put(out, b"reduce xor"),
-    }
-    match item {
-        IteratorArgument::Absent | IteratorArgument::Empty => (),
-        IteratorArgument::Named(_) => put(out, b" named"),
-    }
-}
-
-fn put_plain(out: &mut Vec<u8>, soft: bool, expr: &Expr, dist: &Option<Dist>) {
-    if soft {
-        put(out, b"soft ");
-    }
-    match (expr, dist) {
-        (_, Some(dist)) => {
-            put(out, b"dist ");
-            number(out, dist.items.len());
+impl Wanted {
+    fn reduction(self, op: Fold, item: IteratorArgument) -> Wanted {
+        let told = self.then(b"reduce").fold(op);
+        match item {
+            IteratorArgument::Absent | IteratorArgument::Empty => told,
+            IteratorArgument::Named(_) => told.then(b" named"),
         }
-        (Expr::Reduce { op, item, .. }, None) => put_reduction(out, *op, *item),
-        (Expr::Binary { op, .. }, None) => {
-            if !soft && *op == BinOp::Equivalent {
-                put(out, b"equivalent");
-            } else {
-                put(out, b"plain");
+    }
+
+    fn hard(self, soft: bool, expr: &Expr) -> Wanted {
+        match expr {
+            Expr::Reduce { op, item, .. } => self.reduction(*op, *item),
+            Expr::Binary { op, .. } if !soft && *op == BinOp::Equivalent => {
+                self.then(b"equivalent")
+            }
+            _ => self.then(b"plain"),
+        }
+    }
+
+    fn stated(self, soft: bool, expr: &Expr, dist: &Option<Dist>) -> Wanted {
+        let begun = if soft { self.then(b"soft ") } else { self };
+        match dist {
+            Some(dist) => begun.then(b"dist ").number(dist.items.len()),
+            None => begun.hard(soft, expr),
+        }
+    }
+
+    // what an item is, and how many items or members each of its parts has
+    fn item(self, item: &Item) -> Wanted {
+        match item {
+            Item::Plain {
+                soft,
+                expr,
+                dist,
+                ..
+            } => self.stated(*soft, expr, dist),
+            Item::Unique { members, .. } => self.then(b"unique ").number(members.len()),
+            Item::Implies { body, .. } => self.then(b"implies ").number(body.items.len()),
+            Item::Branch { yes, no, .. } => {
+                let begun = self.then(b"if ").number(yes.items.len());
+                match no {
+                    Some(no) => begun.then(b" else ").number(no.items.len()),
+                    None => begun,
+                }
+            }
+            Item::Foreach { body, .. } => self.then(b"foreach ").number(body.items.len()),
+            Item::Disable { .. } => self.then(b"disable"),
+            Item::Solve { first, later, .. } => {
+                self.then(b"solve ")
+                    .number(first.len())
+                    .then(b" before ")
+                    .number(later.len())
             }
         }
-        (_, None) => put(out, b"plain"),
     }
-}
 
-// what an item is, and how many items or members each of its parts has
-fn put_item(out: &mut Vec<u8>, item: &Item) {
-    match item {
-        Item::Plain {
-            soft,
-            expr,
-            dist,
-            ..
-        } => put_plain(out, *soft, expr, dist),
-        Item::Unique { members, .. } => {
-            put(out, b"unique ");
-            number(out, members.len());
-        }
-        Item::Implies { body, .. } => {
-            put(out, b"implies ");
-            number(out, body.items.len());
-        }
-        Item::Branch { yes, no, .. } => {
-            put(out, b"if ");
-            number(out, yes.items.len());
-            if let Some(no) = no {
-                put(out, b" else ");
-                number(out, no.items.len());
-            }
-        }
-        Item::Foreach { body, .. } => {
-            put(out, b"foreach ");
-            number(out, body.items.len());
-        }
-        Item::Disable { .. } => put(out, b"disable"),
-        Item::Solve { first, later, .. } => {
-            put(out, b"solve ");
-            number(out, first.len());
-            put(out, b" before ");
-            number(out, later.len());
+    // the only item of the only block of the first class
+    fn first_class(self, script: &Script) -> Wanted {
+        let Some(class) = script.classes.get(0) else {
+            return self.then(b"no class")
+        };
+        match class.items.get(2) {
+            Some(ClassItem::Constraint(block)) => match block.items.as_slice() {
+                [item] => self.item(item),
+                _ => self.then(b"not one item"),
+            },
+            _ => self.then(b"no block"),
         }
     }
-}
-
-// the only item of the only block of a class
-fn put_only_item(out: &mut Vec<u8>, class: &ClassDecl) {
-    match class.items.get(2) {
-        Some(ClassItem::Constraint(block)) => match block.items.as_slice() {
-            [item] => put_item(out, item),
-            _ => put(out, b"not one item"),
-        },
-        _ => put(out, b"no block"),
-    }
-}
-
-fn item_shape(alloc: Global, found: Result<Script, ParseError>) -> Vec<u8> {
-    let mut out = Vec::new(alloc);
-    match &found {
-        Ok(script) => match script.classes.get(0) {
-            Some(class) => put_only_item(&mut out, class),
-            None => put(&mut out, b"no class"),
-        },
-        Err(fault) => put_fault(&mut out, *fault),
-    }
-    out
 }
 
 const ITEMS: [(&[u8], &[u8]); 43] = [
@@ -198,15 +202,15 @@ const ITEMS: [(&[u8], &[u8]); 43] = [
     (b"solve a, b before data;", b"solve 2 before 1"),
 ];
 
-fn read_item(alloc: Global, item: &[u8]) -> Vec<u8> {
-    let text = joined(alloc, ITEM_FRONT, item, ITEM_REST);
-    item_shape(alloc, read(alloc, &text))
+fn is_item(alloc: Global, item: &[u8], wanted: &'static [u8]) -> bool {
+    let text = joined(alloc, [ITEM_FRONT, item, ITEM_REST]);
+    is_shown(read(alloc, &text), Look::Item, wanted)
 }
 
 #[test]
 fn items(rt: HostRuntime) {
     for (item, wanted) in ITEMS {
-        assert!(rt; read_item(rt.alloc(), item).as_slice() == wanted);
+        assert!(rt; is_item(rt.alloc(), item, wanted));
     }
 }
 
@@ -217,88 +221,66 @@ const STMT_FRONT: &[u8] =
 
 const STMT_REST: &[u8] = b" end endmodule";
 
-fn put_right(out: &mut Vec<u8>, value: &RightSide) {
-    match value {
-        RightSide::Value(_) => put(out, b"value"),
-        RightSide::New { parens: true } => put(out, b"new()"),
-        RightSide::New { parens: false } => put(out, b"new"),
-        RightSide::NewArray(_) => put(out, b"new array"),
-        RightSide::Pattern { values, .. } => {
-            put(out, b"pattern ");
-            number(out, values.len());
-        }
-        RightSide::Call(found) => {
-            put(out, b"answer ");
-            if let Some(set) = &found.with {
-                number(out, set.len());
-            }
+impl Wanted {
+    fn right_kind(self, value: &RightSide) -> Wanted {
+        match value {
+            RightSide::Value(_) => self.then(b"value"),
+            RightSide::New { parens: true } => self.then(b"new()"),
+            RightSide::New { parens: false } => self.then(b"new"),
+            RightSide::NewArray(_) => self.then(b"new array"),
+            RightSide::Pattern { values, .. } => self.then(b"pattern ").number(values.len()),
+            RightSide::Call(found) => match &found.with {
+                Some(set) => self.then(b"answer ").number(set.len()),
+                None => self.then(b"answer "),
+            },
         }
     }
-}
 
-fn put_form(out: &mut Vec<u8>, form: CallForm) {
-    match form {
-        CallForm::Plain => put(out, b"plain "),
-        CallForm::Void => put(out, b"void "),
-        CallForm::Assert => put(out, b"assert "),
-    }
-}
-
-// its arguments, or how many items its in-line set has
-fn put_call(out: &mut Vec<u8>, form: CallForm, call: &RandomizeCall) {
-    put_form(out, form);
-    if let Some(set) = &call.with {
-        put(out, b"with ");
-        number(out, set.len());
-        return;
-    }
-    match &call.args {
-        RandomizeArgs::Null => put(out, b"null"),
-        RandomizeArgs::Empty => put(out, b"call 0"),
-        RandomizeArgs::Names(names) => {
-            put(out, b"call ");
-            number(out, names.len());
+    fn arg_count(self, args: &RandomizeArgs) -> Wanted {
+        match args {
+            RandomizeArgs::Null => self.then(b"null"),
+            RandomizeArgs::Empty => self.then(b"call 0"),
+            RandomizeArgs::Names(names) => self.then(b"call ").number(names.len()),
         }
     }
-}
 
-// what a statement is: how many statements, values, arguments or items of an in-line set it has
-fn put_stmt(out: &mut Vec<u8>, stmt: &Stmt) {
-    match stmt {
-        Stmt::Empty { .. } => put(out, b"empty"),
-        Stmt::Block { stmts, .. } => {
-            put(out, b"block ");
-            number(out, stmts.len());
+    // its arguments, or how many items its in-line set has
+    fn call_kind(self, form: CallForm, call: &RandomizeCall) -> Wanted {
+        let begun = match form {
+            CallForm::Plain => self.then(b"plain "),
+            CallForm::Void => self.then(b"void "),
+            CallForm::Assert => self.then(b"assert "),
+        };
+        match &call.with {
+            Some(set) => begun.then(b"with ").number(set.len()),
+            None => begun.arg_count(&call.args),
         }
-        Stmt::Repeat { .. } => put(out, b"repeat"),
-        Stmt::Assign { value, .. } => put_right(out, value),
-        Stmt::Call { form, call, .. } => put_call(out, *form, call),
-        Stmt::Mode { mode, .. } => match mode.kind {
-            ModeKind::Rand => put(out, b"rand mode"),
-            ModeKind::Constraint => put(out, b"constraint mode"),
-        },
     }
-}
 
-// how many variables stand before and in the initial block, and its only statement
-fn put_only_stmt(out: &mut Vec<u8>, unit: &UnitDecl) {
-    number(out, unit.outer.len());
-    put(out, b" ");
-    number(out, unit.inner.len());
-    put(out, b" ");
-    match unit.stmts.as_slice() {
-        [stmt] => put_stmt(out, stmt),
-        _ => put(out, b"not one statement"),
+    // what a statement is: how many statements, values, arguments or items of an in-line set it has
+    fn stmt_kind(self, stmt: &Stmt) -> Wanted {
+        match stmt {
+            Stmt::Empty { .. } => self.then(b"empty"),
+            Stmt::Block { stmts, .. } => self.then(b"block ").number(stmts.len()),
+            Stmt::Repeat { .. } => self.then(b"repeat"),
+            Stmt::Assign { value, .. } => self.right_kind(value),
+            Stmt::Call { form, call, .. } => self.call_kind(*form, call),
+            Stmt::Mode { mode, .. } => match mode.kind {
+                ModeKind::Rand => self.then(b"rand mode"),
+                ModeKind::Constraint => self.then(b"constraint mode"),
+            },
+        }
     }
-}
 
-fn stmt_shape(alloc: Global, found: Result<Script, ParseError>) -> Vec<u8> {
-    let mut out = Vec::new(alloc);
-    match &found {
-        Ok(script) => put_only_stmt(&mut out, &script.unit),
-        Err(fault) => put_fault(&mut out, *fault),
+    // how many variables stand before and in the initial block, and its only statement
+    fn only_stmt(self, unit: &UnitDecl) -> Wanted {
+        let outer = self.number(unit.outer.len()).then(b" ");
+        let inner = outer.number(unit.inner.len()).then(b" ");
+        match unit.stmts.as_slice() {
+            [stmt] => inner.stmt_kind(stmt),
+            _ => inner.then(b"not one statement"),
+        }
     }
-    out
 }
 
 const STMTS: [(&[u8], &[u8]); 24] = [
@@ -331,15 +313,15 @@ const STMTS: [(&[u8], &[u8]); 24] = [
     (b"p.c.constraint_mode(x == 1);", b"1 2 constraint mode"),
 ];
 
-fn read_stmt(alloc: Global, stmt: &[u8]) -> Vec<u8> {
-    let text = joined(alloc, STMT_FRONT, stmt, STMT_REST);
-    stmt_shape(alloc, read(alloc, &text))
+fn is_stmt(alloc: Global, stmt: &[u8], wanted: &'static [u8]) -> bool {
+    let text = joined(alloc, [STMT_FRONT, stmt, STMT_REST]);
+    is_shown(read(alloc, &text), Look::Stmt, wanted)
 }
 
 #[test]
 fn statements(rt: HostRuntime) {
     for (stmt, wanted) in STMTS {
-        assert!(rt; read_stmt(rt.alloc(), stmt).as_slice() == wanted);
+        assert!(rt; is_stmt(rt.alloc(), stmt, wanted));
     }
 }
 
@@ -353,96 +335,100 @@ program t(); D d; word_t w = 3, v; initial begin D e = new(); end endprogram : t
 const TYPES_SHAPE: &[u8] =
     b"type class type class extends labelled 3 [] [$] [size] [bounds] [size][bounds] , program () 2 1 0 labelled named new()";
 
-fn put_order(out: &mut Vec<u8>, order: &[Top]) {
-    for top in order {
-        match top {
-            Top::OfType => put(out, b"type "),
-            Top::OfClass => put(out, b"class "),
+impl Wanted {
+    fn order(self, order: &[Top]) -> Wanted {
+        let mut wanted = self;
+        for top in order {
+            wanted = match top {
+                Top::OfType => wanted.then(b"type "),
+                Top::OfClass => wanted.then(b"class "),
+            };
+        }
+        wanted
+    }
+
+    fn dimension_kinds(self, dims: &[Dimension]) -> Wanted {
+        let mut wanted = self.then(b" ");
+        for dim in dims {
+            wanted = match dim {
+                Dimension::Dynamic => wanted.then(b"[]"),
+                Dimension::Queue => wanted.then(b"[$]"),
+                Dimension::Size(_) => wanted.then(b"[size]"),
+                Dimension::Bounds(_, _) => wanted.then(b"[bounds]"),
+            };
+        }
+        wanted
+    }
+
+    fn arrays(self, found: &PropertyDecl) -> Wanted {
+        let mut wanted = self;
+        for one in found.decls.as_slice() {
+            wanted = wanted.dimension_kinds(one.dims.as_slice());
+        }
+        wanted
+    }
+
+    fn told_if(self, holds: bool, word: &[u8]) -> Wanted {
+        if holds { self.then(word) } else { self }
+    }
+
+    fn class(self, class: &ClassDecl) -> Wanted {
+        let derived = self.told_if(class.base.is_some(), b"extends ");
+        let labelled = derived.told_if(class.label.is_some(), b"labelled ");
+        let counted = labelled.number(class.items.len());
+        match class.items.get(2) {
+            Some(ClassItem::Property(arrays)) => counted.arrays(arrays),
+            _ => counted,
         }
     }
-}
 
-fn put_dimensions(out: &mut Vec<u8>, found: &PropertyDecl) {
-    for one in found.decls.as_slice() {
-        put(out, b" ");
-        for dim in one.dims.as_slice() {
-            match dim {
-                Dimension::Dynamic => put(out, b"[]"),
-                Dimension::Queue => put(out, b"[$]"),
-                Dimension::Size(_) => put(out, b"[size]"),
-                Dimension::Bounds(_, _) => put(out, b"[bounds]"),
-            }
+    // a variable that starts with an object
+    fn object(self, found: &VarDecl) -> Wanted {
+        let typed = match &found.kind {
+            DataType::Named(_) => self.then(b"named"),
+            DataType::Integer(_) => self.then(b"integer"),
+        };
+        match found.vars.get(0) {
+            Some(first) => match &first.init {
+                Some(VarInit::New { parens: true }) => typed.then(b" new()"),
+                _ => typed.then(b" other"),
+            },
+            None => typed,
         }
     }
-}
 
-fn put_class(out: &mut Vec<u8>, class: &ClassDecl) {
-    if class.base.is_some() {
-        put(out, b"extends ");
-    }
-    if class.label.is_some() {
-        put(out, b"labelled ");
-    }
-    number(out, class.items.len());
-    if let Some(ClassItem::Property(arrays)) = class.items.get(2) {
-        put_dimensions(out, arrays);
-    }
-}
-
-// a variable that starts with an object
-fn put_object(out: &mut Vec<u8>, found: &VarDecl) {
-    match &found.kind {
-        DataType::Named(_) => put(out, b"named"),
-        DataType::Integer(_) => put(out, b"integer"),
-    }
-    if let Some(first) = found.vars.get(0) {
-        match &first.init {
-            Some(VarInit::New { parens: true }) => put(out, b" new()"),
-            _ => put(out, b" other"),
+    fn unit(self, unit: &UnitDecl) -> Wanted {
+        let begun = match unit.kind {
+            UnitKind::Module => self.then(b", module "),
+            UnitKind::Program => self.then(b", program "),
+        };
+        let outer = begun
+            .told_if(unit.parens, b"() ")
+            .number(unit.outer.len())
+            .then(b" ");
+        let inner = outer
+            .number(unit.inner.len())
+            .then(b" ")
+            .number(unit.stmts.len());
+        let labelled = inner.told_if(unit.label.is_some(), b" labelled ");
+        match unit.inner.get(0) {
+            Some(var) => labelled.object(var),
+            None => labelled,
         }
     }
-}
 
-fn put_unit(out: &mut Vec<u8>, unit: &UnitDecl) {
-    match unit.kind {
-        UnitKind::Module => put(out, b", module "),
-        UnitKind::Program => put(out, b", program "),
-    }
-    if unit.parens {
-        put(out, b"() ");
-    }
-    number(out, unit.outer.len());
-    put(out, b" ");
-    number(out, unit.inner.len());
-    put(out, b" ");
-    number(out, unit.stmts.len());
-    if unit.label.is_some() {
-        put(out, b" labelled ");
-    }
-    if let Some(var) = unit.inner.get(0) {
-        put_object(out, var);
-    }
-}
-
-fn script_shape(alloc: Global, found: Result<Script, ParseError>) -> Vec<u8> {
-    let mut out = Vec::new(alloc);
-    match &found {
-        Ok(script) => {
-            put_order(&mut out, script.order.as_slice());
-            if let Some(derived) = script.classes.get(1) {
-                put_class(&mut out, derived);
-            }
-            put_unit(&mut out, &script.unit);
+    fn whole(self, script: &Script) -> Wanted {
+        let ordered = self.order(script.order.as_slice());
+        match script.classes.get(1) {
+            Some(derived) => ordered.class(derived).unit(&script.unit),
+            None => ordered.unit(&script.unit),
         }
-        Err(fault) => put_fault(&mut out, *fault),
     }
-    out
 }
 
 #[test]
 fn declarations(rt: HostRuntime) {
-    let found = script_shape(rt.alloc(), read(rt.alloc(), TYPES));
-    assert!(rt; found.as_slice() == TYPES_SHAPE);
+    assert!(rt; is_shown(read(rt.alloc(), TYPES), Look::Whole, TYPES_SHAPE));
 }
 
 // ---- faults
@@ -463,13 +449,6 @@ module m;
   end
 endmodule
 ";
-
-fn fault(alloc: Global, text: &[u8]) -> Option<ParseError> {
-    match read(alloc, text) {
-        Ok(_) => None,
-        Err(found) => Some(found),
-    }
-}
 
 // Whether each front of the text, cut before a token, ends too early.
 fn ends_early(alloc: Global, text: &[u8], tokens: &[Token]) -> bool {
@@ -560,13 +539,13 @@ const NESTED_REST: &[u8] =
 fn nested(alloc: Global, pairs: usize) -> Vec<u8> {
     let mut value = Vec::new(alloc);
     for _pair in 0..pairs {
-        put(&mut value, b"(");
+        let _unmet = value.push(b'(').is_err();
     }
-    put(&mut value, b"1");
+    let _unmet = value.push(b'1').is_err();
     for _pair in 0..pairs {
-        put(&mut value, b")");
+        let _unmet = value.push(b')').is_err();
     }
-    joined(alloc, NESTED_FRONT, &value, NESTED_REST)
+    joined(alloc, [NESTED_FRONT, &value, NESTED_REST])
 }
 
 // With 125 pairs the item has the height 128; the 126th opening one, the token 137, has no room.

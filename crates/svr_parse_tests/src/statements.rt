@@ -2,154 +2,136 @@
 
 ghost use Rattle.std.specs.Prelude.{◌≤◌, ◌<◌};
 
-use crate::shape::{expr, number, put, token};
-use crate::text::{put_fault, spelled};
+use crate::text::{Told, is_told, spelled};
+use crate::wanted::Wanted;
 use std::alloc::Global;
-use svr_reader::{Cursor, ReadFault};
+use svr_reader::Cursor;
 use svr_stmt::{stmt, stmt_on};
 use svr_token::NameKind;
-use svr_tree::{CallForm, ModeCall, ModeKind, RandomizeArgs, RandomizeCall, RightSide, Stmt};
+use svr_tree::{CallForm, Expr, ModeCall, ModeKind, RandomizeArgs, RandomizeCall, RightSide, Stmt};
 
-fn put_args(out: &mut Vec<u8>, args: &RandomizeArgs) {
-    match args {
-        RandomizeArgs::Empty => (),
-        RandomizeArgs::Null => put(out, b" null"),
-        RandomizeArgs::Names(names) => {
-            for name in names.as_slice() {
-                put(out, b" ");
-                token(out, *name);
+impl Wanted {
+    fn args(self, args: &RandomizeArgs) -> Wanted {
+        match args {
+            RandomizeArgs::Empty => self,
+            RandomizeArgs::Null => self.then(b" null"),
+            RandomizeArgs::Names(names) => {
+                let mut wanted = self;
+                for name in names.as_slice() {
+                    wanted = wanted.then(b" ").token(*name);
+                }
+                wanted
             }
         }
     }
-}
 
-// its path, its arguments, and how many items its set has
-fn put_call(out: &mut Vec<u8>, found: &RandomizeCall) {
-    expr(out, &found.path);
-    put(out, b".randomize(");
-    put_args(out, &found.args);
-    put(out, b")");
-    if let Some(items) = &found.with {
-        put(out, b" with ");
-        number(out, items.len());
-    }
-}
-
-fn put_right(out: &mut Vec<u8>, right: &RightSide) {
-    match right {
-        RightSide::Value(value) => expr(out, value),
-        RightSide::New { parens: true } => put(out, b"new()"),
-        RightSide::New { parens: false } => put(out, b"new"),
-        RightSide::NewArray(count) => {
-            put(out, b"new[");
-            expr(out, count);
-            put(out, b"]");
+    // its path, its arguments, and how many items its set has
+    fn call(self, found: &RandomizeCall) -> Wanted {
+        let told = self
+            .expr(&found.path)
+            .then(b".randomize(")
+            .args(&found.args)
+            .then(b")");
+        match &found.with {
+            Some(items) => told.then(b" with ").number(items.len()),
+            None => told,
         }
-        RightSide::Pattern { at, values } => {
-            token(out, *at);
-            put(out, b"'{");
-            for value in values.as_slice() {
-                put(out, b" ");
-                expr(out, value);
+    }
+
+    fn values(self, values: &[Expr]) -> Wanted {
+        let mut wanted = self;
+        for value in values {
+            wanted = wanted.then(b" ").expr(value);
+        }
+        wanted
+    }
+
+    fn right(self, right: &RightSide) -> Wanted {
+        match right {
+            RightSide::Value(value) => self.expr(value),
+            RightSide::New { parens: true } => self.then(b"new()"),
+            RightSide::New { parens: false } => self.then(b"new"),
+            RightSide::NewArray(count) => self.then(b"new[").expr(count).then(b"]"),
+            RightSide::Pattern { at, values } => {
+                self.token(*at)
+                    .then(b"'{")
+                    .values(values.as_slice())
+                    .then(b"}")
             }
-            put(out, b"}");
-        }
-        RightSide::Call(found) => put_call(out, found),
-    }
-}
-
-fn form_word(form: CallForm) -> &'static [u8] {
-    match form {
-        CallForm::Plain => b": call ",
-        CallForm::Void => b": void ",
-        CallForm::Assert => b": assert ",
-    }
-}
-
-fn put_mode(out: &mut Vec<u8>, mode: &ModeCall) {
-    expr(out, &mode.path);
-    match mode.kind {
-        ModeKind::Rand => put(out, b".rand_mode "),
-        ModeKind::Constraint => put(out, b".constraint_mode "),
-    }
-    expr(out, &mode.on);
-}
-
-// the body of a loop, by its token alone
-fn put_body(out: &mut Vec<u8>, stmt: &Stmt) {
-    match stmt {
-        Stmt::Empty { at } => {
-            token(out, *at);
-            put(out, b": ;");
-        }
-        _ => put(out, b"other"),
-    }
-}
-
-fn put_stmt(out: &mut Vec<u8>, stmt: &Stmt) {
-    match stmt {
-        Stmt::Empty { at } => {
-            token(out, *at);
-            put(out, b": ;");
-        }
-        Stmt::Block { at, stmts } => {
-            token(out, *at);
-            put(out, b": block ");
-            number(out, stmts.len());
-        }
-        Stmt::Repeat { at, count, body } => {
-            token(out, *at);
-            put(out, b": repeat ");
-            expr(out, count);
-            put(out, b" ");
-            put_body(out, body.get());
-        }
-        Stmt::Assign { at, target, value } => {
-            token(out, *at);
-            put(out, b": ");
-            expr(out, target);
-            put(out, b" = ");
-            put_right(out, value);
-        }
-        Stmt::Call { at, form, call } => {
-            token(out, *at);
-            put(out, form_word(*form));
-            put_call(out, call);
-        }
-        Stmt::Mode { at, mode } => {
-            token(out, *at);
-            put(out, b": ");
-            put_mode(out, mode);
+            RightSide::Call(found) => self.call(found),
         }
     }
-}
 
-fn stmt_shape(alloc: Global, found: Result<(Stmt, usize), ReadFault>, left: usize) -> Vec<u8> {
-    let mut out = Vec::new(alloc);
-    match &found {
-        Ok((stmt, height)) => {
-            put_stmt(&mut out, stmt);
-            put(&mut out, b" high ");
-            number(&mut out, *height);
-            if left > 0 {
-                put(&mut out, b" left ");
-                number(&mut out, left);
+    fn form(self, form: CallForm) -> Wanted {
+        match form {
+            CallForm::Plain => self.then(b": call "),
+            CallForm::Void => self.then(b": void "),
+            CallForm::Assert => self.then(b": assert "),
+        }
+    }
+
+    fn mode(self, mode: &ModeCall) -> Wanted {
+        let told = self.then(b": ").expr(&mode.path);
+        let named = match mode.kind {
+            ModeKind::Rand => told.then(b".rand_mode "),
+            ModeKind::Constraint => told.then(b".constraint_mode "),
+        };
+        named.expr(&mode.on)
+    }
+
+    // the body of a loop, by its token alone
+    fn body(self, stmt: &Stmt) -> Wanted {
+        match stmt {
+            Stmt::Empty { at } => self.token(*at).then(b": ;"),
+            _ => self.then(b"other"),
+        }
+    }
+
+    fn stmt(self, stmt: &Stmt) -> Wanted {
+        match stmt {
+            Stmt::Empty { .. } => self.body(stmt),
+            Stmt::Block { at, stmts } => self.token(*at).then(b": block ").number(stmts.len()),
+            Stmt::Repeat { at, count, body } => {
+                self.token(*at)
+                    .then(b": repeat ")
+                    .expr(count)
+                    .then(b" ")
+                    .body(body.get())
             }
+            Stmt::Assign { at, target, value } => {
+                self.token(*at)
+                    .then(b": ")
+                    .expr(target)
+                    .then(b" = ")
+                    .right(value)
+            }
+            Stmt::Call { at, form, call } => self.token(*at).form(*form).call(call),
+            Stmt::Mode { at, mode } => self.token(*at).mode(mode),
         }
-        Err(fault) => put_fault(&mut out, *fault),
     }
-    out
 }
 
-fn read(alloc: Global, text: &[u8], room: usize) -> Vec<u8> {
+impl Told for Stmt {
+    // the number of tokens left only if there are any
+    fn told(&self, wanted: Wanted, height: usize, left: usize) -> Wanted {
+        let high = wanted.stmt(self).then(b" high ").number(height);
+        if left > 0 {
+            high.then(b" left ").number(left)
+        } else {
+            high
+        }
+    }
+}
+
+fn is_read(alloc: Global, text: &[u8], room: usize, wanted: &'static [u8]) -> bool {
     let lexemes = spelled(alloc, text);
     let mut cursor = Cursor::new(&lexemes);
     let found = stmt(alloc, &mut cursor, room);
-    stmt_shape(alloc, found, cursor.left())
+    is_told(found, cursor.left(), wanted)
 }
 
 // behind the name of token `first`, which is taken here if `taken` says so
-fn read_on(alloc: Global, text: &[u8], room: usize, taken: bool) -> Vec<u8>
+fn is_read_on(alloc: Global, text: &[u8], room: usize, taken: bool, wanted: &'static [u8]) -> bool
     requires path { 2 ≤ room }
     requires few { room < 1000 }
 {
@@ -159,7 +141,7 @@ fn read_on(alloc: Global, text: &[u8], room: usize, taken: bool) -> Vec<u8>
         let _unmet = cursor.take().is_err();
     }
     let found = stmt_on(alloc, &mut cursor, room, 0, NameKind::Plain);
-    stmt_shape(alloc, found, cursor.left())
+    is_told(found, cursor.left(), wanted)
 }
 
 // statements that begin with a name
@@ -189,8 +171,8 @@ const NAMED: [(&[u8], &[u8]); 14] = [
 #[test]
 fn statements_that_begin_with_a_name(rt: HostRuntime) {
     for (text, wanted) in NAMED {
-        assert!(rt; read(rt.alloc(), text, 128).as_slice() == wanted);
-        assert!(rt; read_on(rt.alloc(), text, 128, true).as_slice() == wanted);
+        assert!(rt; is_read(rt.alloc(), text, 128, wanted));
+        assert!(rt; is_read_on(rt.alloc(), text, 128, true, wanted));
     }
 }
 
@@ -212,7 +194,7 @@ const STATEMENTS: [(&[u8], &[u8]); 6] = [
 #[test]
 fn calls_blocks_and_loops(rt: HostRuntime) {
     for (text, wanted) in STATEMENTS {
-        assert!(rt; read(rt.alloc(), text, 128).as_slice() == wanted);
+        assert!(rt; is_read(rt.alloc(), text, 128, wanted));
     }
 }
 
@@ -236,11 +218,9 @@ const FAULTS: [(&[u8], usize, &[u8]); 14] = [
 #[test]
 fn faults_of_statements(rt: HostRuntime) {
     for (text, room, wanted) in FAULTS {
-        assert!(rt; read(rt.alloc(), text, room).as_slice() == wanted);
+        assert!(rt; is_read(rt.alloc(), text, room, wanted));
     }
     // behind the first name, where there is room for a path alone
-    let deep = read_on(rt.alloc(), b"= (n);", 2, false);
-    assert!(rt; deep.as_slice() == b"deep 4".as_slice());
-    let parens = read_on(rt.alloc(), b"(n", 2, false);
-    assert!(rt; parens.as_slice() == b"unexpected 2".as_slice());
+    assert!(rt; is_read_on(rt.alloc(), b"= (n);", 2, false, b"deep 4"));
+    assert!(rt; is_read_on(rt.alloc(), b"(n", 2, false, b"unexpected 2"));
 }

@@ -1,8 +1,8 @@
-// What a text spells, and what a reader answers, as bytes.
+// What a text spells, and what a reader answers.
 
 ghost use Rattle.std.specs.Prelude.{◌≤◌, length};
 
-use crate::shape::{number, put};
+use crate::wanted::Wanted;
 use std::alloc::Global;
 use svr_lex::lex;
 use svr_reader::{ReadFault, lexemes};
@@ -23,17 +23,30 @@ pub fn spelled(alloc: Global, text: &[u8]) -> Vec<Lexeme>
     }
 }
 
-/// A fault: `unexpected 2` or `deep 2`, with the number of tokens that are left.
-pub fn put_fault(out: &mut Vec<u8>, fault: ReadFault) {
-    match fault {
-        ReadFault::Unexpected(left) => {
-            put(out, b"unexpected ");
-            number(out, left);
-        }
-        ReadFault::TooDeep(left) => {
-            put(out, b"deep ");
-            number(out, left);
-        }
-        ReadFault::NoMemory => put(out, b"no memory"),
+/// A tree that can be told.
+pub trait Told {
+    /// Tells it, with its height and the number of tokens left behind it.
+    fn told(&self, wanted: Wanted, height: usize, left: usize) -> Wanted;
+}
+
+/// Whether just the wanted text tells the tree or the fault. Each tree is let go here, whatever it is of, so that no other function has to.
+pub fn is_told<T: Told + Drop>(
+    found: Result<(T, usize), ReadFault>,
+    left: usize,
+    wanted: &'static [u8],
+) -> bool {
+    let begun = Wanted::new(wanted);
+    let told = match &found {
+        Ok((tree, height)) => tree.told(begun, *height, left),
+        Err(fault) => begun.fault(*fault),
+    };
+    told.is_met()
+}
+
+/// The height of a tree, or the fault.
+pub fn height_of<T: Drop>(found: Result<(T, usize), ReadFault>) -> Result<usize, ReadFault> {
+    match &found {
+        Ok((_, height)) => Ok(*height),
+        Err(fault) => Err(*fault),
     }
 }

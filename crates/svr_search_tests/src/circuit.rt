@@ -12,19 +12,19 @@ use svr_gate::Builder;
 use svr_query::Solver;
 
 /// A gate of two earlier signals: bit i of its table is its value where the first is bit 0 of i and the second is bit 1.
-#[derive(Clone, Copy, Debug)]
-pub struct Gate {
-    pub table: u16,
-    pub first: usize,
-    pub second: usize,
+#[derive(Clone, Copy)]
+pub(crate) struct Gate {
+    pub(crate) table: u16,
+    pub(crate) first: usize,
+    pub(crate) second: usize,
 }
 
 /// A solver over the gates, the number of its variables, and the literals of the bits and of the gates in turn.
-#[derive(Debug, Drop)]
-pub struct Built {
-    pub solver: Solver,
-    pub vars: u64,
-    pub signals: Vec<Lit>,
+#[derive(Drop)]
+pub(crate) struct Built {
+    pub(crate) solver: Solver,
+    pub(crate) vars: u64,
+    pub(crate) signals: Vec<Lit>,
 }
 
 /// The literals of the variables 1 to `count`.
@@ -61,7 +61,7 @@ fn add_gate(builder: &mut Builder, signals: &mut Vec<Lit>, gate: Gate) -> Result
 
 /// The solver of a circuit with so many bits.
 #[tactic(auto, using(crate::proofs::Bits::within_more))]
-pub fn build(alloc: Global, count: u32, gates: &[Gate]) -> Result<Built, NoMemory>
+pub(crate) fn build(alloc: Global, count: u32, gates: &[Gate]) -> Result<Built, NoMemory>
     ensures { IfOk result (λ b. b.solver.vars ≡ b.vars) }
 {
     let mut builder = Builder::new(alloc, count)?;
@@ -83,7 +83,7 @@ pub fn build(alloc: Global, count: u32, gates: &[Gate]) -> Result<Built, NoMemor
 }
 
 /// The values of the bits, which are those of `row`, and of the gates in turn.
-pub fn values_at(
+pub(crate) fn values_at(
     alloc: Global,
     count: u32,
     gates: &[Gate],

@@ -1,24 +1,16 @@
 // A conflict at the first level.
 
-ghost use Rattle.std.specs.Prelude.{◌≡◌, IfOk, IfSome};
-ghost use Rattle.svr_chain.specs.Clauses.{AreWithin};
+ghost use Rattle.std.specs.Prelude.{◌≡◌, [], IfSome};
 ghost use Rattle.svr_trail.specs.Trail.{IsFault};
 
+use crate::clauses::{cnf, lits};
 use std::alloc::Global;
 use std::marker::Brand;
 use std::sync::ledger::{Blank, Ledger};
 use std::test::Fail;
 use svr_cdcl::{NoMemory, Search};
-use svr_chain::{Clause, Cnf, Lit};
+use svr_chain::Clause;
 use svr_watch::Steps;
-
-fn unit(alloc: Global, neg: bool) -> Result<Clause, NoMemory>
-    ensures { IfOk result (λ c. AreWithin 1 c) }
-{
-    let mut lits = Vec::new(alloc);
-    lits.push(Lit { var: 1, neg })?;
-    Ok(Clause::new(lits))
-}
 
 fn count_visits<L: Ledger>(blank: Blank, search: &mut Search) -> Option<u64>
     requires name { blank.name ≡ L.name }
@@ -40,23 +32,34 @@ fn propagate(search: &mut Search) -> Option<u64>
     count_visits::<Brand>(Blank::new(1), search)
 }
 
+/// How many literals explain that the clauses conflict, nothing where they do not.
+fn explained(search: &mut Search) -> Result<Option<usize>, NoMemory> {
+    match propagate(search) {
+        Some(number) => Ok(Some(search.explain(number, None)?.lits.lits().len())),
+        None => Ok(None),
+    }
+}
+
+/// Whether the negation of 1 is learned as the second clause, and is in conflict.
+fn conflicts(alloc: Global, search: &mut Search) -> Result<bool, NoMemory>
+    requires vars { search.old.vars ≡ 1 }
+    requires level { search.old.ends ≡ [] }
+{
+    let number = search.learn(Clause::new(lits(alloc, 1, &[-1])?))?;
+    Ok(number == 2 && explained(search)? == Some(0))
+}
+
+/// Whether the clause 1 conflicts with its negation, and with nothing before that is learned.
+fn explains(alloc: Global) -> Result<bool, NoMemory> {
+    let mut search = Search::new(alloc, &cnf(alloc, 1, &[&[1]])?)?;
+    if propagate(&mut search).is_some() || search.level() != 0 {
+        return Ok(false);
+    }
+    conflicts(alloc, &mut search)
+}
+
 #[test]
 fn explains_a_conflict_at_level_0(rt: HostRuntime) -> Result<(), Fail> {
-    let alloc = rt.alloc();
-    let mut clauses = Vec::new(alloc);
-    clauses.push(unit(alloc, false)?)?;
-    let cnf = Cnf { vars: 1, clauses };
-    let mut search = Search::new(alloc, &cnf)?;
-    assert_eq!(rt; propagate(&mut search), None);
-    assert_eq!(rt; search.level(), 0);
-    let number = search.learn(unit(alloc, true)?)?;
-    assert_eq!(rt; number, 2);
-    match propagate(&mut search) {
-        Some(number) => {
-            let explained = search.explain(number, None)?;
-            assert_eq!(rt; explained.lits.lits().len(), 0);
-        }
-        None => assert!(rt; false, "the clauses conflict"),
-    }
+    assert!(rt; explains(rt.alloc())?);
     Ok(())
 }

@@ -8,6 +8,8 @@ mod arenas;
 #[cfg(test)]
 mod circuit;
 #[cfg(test)]
+mod clauses;
+#[cfg(test)]
 mod conflicts;
 #[cfg(test)]
 mod logs;

@@ -3,8 +3,8 @@
 use std::alloc::{AllocError, AllocFailed};
 
 /// An allocation was refused.
-#[derive(Clone, Copy, Debug, PartialEq, Eq)]
-pub struct NoMemory;
+#[derive(Debug, Drop)]
+pub(crate) struct NoMemory;
 
 impl From<AllocError> for NoMemory {
     fn from(_error: AllocError) -> NoMemory {

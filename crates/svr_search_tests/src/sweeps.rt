@@ -1,27 +1,17 @@
 //! Small questions are answered within the least budget for which that is promised, and rightly.
 
-ghost use Rattle.std.specs.Prelude.{◌≡◌, ◌<◌, ◌≤◌, true, length, IfOk};
-ghost use Rattle.svr_chain.specs.Clauses.{AreWithin};
+ghost use Rattle.std.specs.Prelude.{◌≡◌, ◌<◌, ◌≤◌};
 
 use crate::circuit::{Built, Gate, build, values_at};
+use crate::clauses::are_within;
 use crate::memory::NoMemory;
 use std::alloc::Global;
 use std::test::Fail;
 use svr_chain::{Lit, have_opposites};
 use svr_query::Answer;
 
-/// What an answer tells.
-#[derive(Clone, Copy, Debug, PartialEq, Eq)]
-enum Told {
-    Satisfied,
-    Refuted,
-    Spent,
-    /// The question is not one to ask.
-    Nothing,
-}
-
 /// A signal with the value that is assumed of it.
-#[derive(Clone, Copy, Debug)]
+#[derive(Clone, Copy)]
 struct Wish {
     signal: usize,
     value: bool,
@@ -94,12 +84,6 @@ fn parity_gates(alloc: Global, count: u32) -> Result<Vec<Gate>, NoMemory> {
     Ok(gates)
 }
 
-fn are_within(vars: u64, lits: &[Lit]) -> bool
-    ensures { result ≡ true → AreWithin vars lits.now }
-{
-    lits.iter().all(|lit| 0 < lit.var && lit.var <= vars)
-}
-
 /// The literals that say that the signals have these values.
 fn assumed(alloc: Global, signals: &[Lit], wishes: &[Wish]) -> Result<Vec<Lit>, NoMemory> {
     let mut lits = Vec::new(alloc);
@@ -111,85 +95,132 @@ fn assumed(alloc: Global, signals: &[Lit], wishes: &[Wish]) -> Result<Vec<Lit>, 
     Ok(lits)
 }
 
-/// What the solver tells of the wishes within the budget.
-fn asked(alloc: Global, built: &mut Built, wishes: &[Wish], budget: u64) -> Result<Told, NoMemory>
+/// Whether the wishes can be met, as the solver tells within the budget; nothing where it does not tell.
+fn asked(
+    alloc: Global,
+    built: &mut Built,
+    wishes: &[Wish],
+    budget: u64,
+) -> Result<Option<bool>, NoMemory>
     requires { built.old.solver.vars ≡ built.old.vars }
     ensures { built.new.solver.vars ≡ built.new.vars }
 {
-    let assume = assumed(alloc, built.signals.as_slice(), wishes)?;
+    let assume = assumed(alloc, &built.signals, wishes)?;
     let prefer = vec![in alloc; false; built.vars as usize]?;
-    if have_opposites(assume.as_slice()) {
-        return Ok(Told::Refuted);
+    if have_opposites(&assume) {
+        return Ok(Some(false));
     }
-    if !are_within(built.vars, assume.as_slice()) || budget == 0 {
-        return Ok(Told::Nothing);
+    if !are_within(built.vars, &assume) || budget == 0 {
+        return Ok(None);
     }
-    match built
-        .solver
-        .ask(assume.as_slice(), prefer.as_slice(), budget)?
-    {
-        Answer::Satisfied(_) => Ok(Told::Satisfied),
-        Answer::Refuted(_) => Ok(Told::Refuted),
-        Answer::Spent { .. } => Ok(Told::Spent),
+    match built.solver.ask(&assume, &prefer, budget)? {
+        Answer::Satisfied(_) => Ok(Some(true)),
+        Answer::Refuted(_) => Ok(Some(false)),
+        Answer::Spent { .. } => Ok(None),
     }
 }
 
-/// What trying all values of the bits tells of the wishes.
+/// Whether the signals have the values of the wishes.
+fn are_met(wishes: &[Wish], values: &[bool]) -> bool {
+    for wish in wishes {
+        match values.get(wish.signal) {
+            Some(value) if *value == wish.value => {}
+            _ => return false,
+        }
+    }
+    true
+}
+
+/// Whether the wishes can be met, as trying all values of the bits tells.
 fn tried(
     alloc: Global,
     count: u32,
     gates: &[Gate],
     wishes: &[Wish],
     rows: u64,
-) -> Result<Told, NoMemory> {
+) -> Result<bool, NoMemory> {
     for row in 0..rows {
-        let values = values_at(alloc, count, gates, row)?;
-        if wishes.iter().all(|wish| values.get(wish.signal).copied() == Some(wish.value)) {
-            return Ok(Told::Satisfied);
+        if are_met(wishes, &values_at(alloc, count, gates, row)?) {
+            return Ok(true);
         }
     }
-    Ok(Told::Refuted)
+    Ok(false)
+}
+
+fn wish_from(state: u64, count: usize) -> Wish
+    requires { 1 ≤ count }
+{
+    Wish {
+        signal: below(state, count),
+        value: state % 3 == 0,
+    }
+}
+
+/// Three wishes for some of the signals, and the state behind them.
+fn three_wishes(state: &mut u64, count: usize) -> [Wish; 3]
+    requires { 1 ≤ count }
+{
+    let first = next(*state);
+    let second = next(first);
+    *state = next(second);
+    [
+        wish_from(first, count),
+        wish_from(second, count),
+        wish_from(*state, count),
+    ]
+}
+
+/// Whether the solver answers eight times as trying tells.
+fn agrees(
+    alloc: Global,
+    built: &mut Built,
+    count: u32,
+    gates: &[Gate],
+    rows: u64,
+    state: &mut u64,
+) -> Result<bool, NoMemory>
+    requires { built.old.solver.vars ≡ built.old.vars }
+{
+    for _ in 0..8 {
+        let wishes = three_wishes(state, gates.len() + 1);
+        let found = asked(alloc, built, &wishes, rows.saturating_mul(2))?;
+        if found != Some(tried(alloc, count, gates, &wishes, rows)?) {
+            return Ok(false);
+        }
+    }
+    Ok(true)
+}
+
+/// Whether questions over random gates are answered as trying all of so many values of the bits tells.
+fn is_answered(alloc: Global, count: u32, rows: u64, state: &mut u64) -> Result<bool, NoMemory> {
+    let gates = random_gates(alloc, count, 4 * count as usize, count as u64)?;
+    let mut built = build(alloc, count, &gates)?;
+    agrees(alloc, &mut built, count, &gates, rows, state)
 }
 
 #[test]
 fn answers_random_circuits(rt: HostRuntime) -> Result<(), Fail> {
-    let alloc = rt.alloc();
     let mut state = 1;
     for count in 1..11u32 {
-        let rows = 1u64 << count;
-        let size = 4 * count as usize;
-        let gates = random_gates(alloc, count, size, count as u64)?;
-        let mut built = build(alloc, count, gates.as_slice())?;
-        for _ in 0..8 {
-            let mut wishes = [Wish {
-                signal: 0,
-                value: false,
-            }; 3];
-            for wish in &mut wishes {
-                state = next(state);
-                wish.signal = below(state, size + 1);
-                wish.value = state % 3 == 0;
-            }
-            let expected = tried(alloc, count, gates.as_slice(), &wishes, rows)?;
-            let told = asked(alloc, &mut built, &wishes, 2 * rows)?;
-            assert_eq!(rt; told, expected);
-        }
+        assert!(rt; is_answered(rt.alloc(), count, 1 << count, &mut state)?);
     }
     Ok(())
 }
 
+/// Whether it is refuted that the parities differ.
+fn is_refuted(alloc: Global, count: u32, budget: u64) -> Result<bool, NoMemory> {
+    let mut built = build(alloc, count, &parity_gates(alloc, count)?)?;
+    let wish = Wish {
+        signal: built.signals.len().saturating_sub(1),
+        value: true,
+    };
+    Ok(asked(alloc, &mut built, &[wish], budget)? == Some(false))
+}
+
 #[test]
 fn refutes_that_two_parities_differ(rt: HostRuntime) -> Result<(), Fail> {
-    let alloc = rt.alloc();
     for count in 1..9u32 {
-        let gates = parity_gates(alloc, count)?;
-        let mut built = build(alloc, count, gates.as_slice())?;
-        let wish = Wish {
-            signal: built.signals.len().saturating_sub(1),
-            value: true,
-        };
-        let told = asked(alloc, &mut built, &[wish], 2 << count)?;
-        assert_eq!(rt; told, Told::Refuted);
+        assert!(rt; is_refuted(rt.alloc(), count, 2 << count)?);
     }
     Ok(())
 }

@@ -1,23 +1,55 @@
+//! 255 + 1 at 8 bits, and as an item.
+
+ghost use Rattle.std.specs.Prelude.{◌≡◌, false, IfOk};
+ghost use Rattle.svr_operator.specs.declared.BinOp.TheVariants as bin;
+ghost use Rattle.svr_typed.specs.ExprTerm as term;
+ghost use Rattle.svr_typed.specs.ExprTerm.{expr_term};
+
 use sqlite_items::Items;
+use std::alloc::Global;
 use std::test::Fail;
 use svr_eval::{Assign, Env, holds, value};
 use svr_operator::BinOp;
-use svr_typed::{TExpr, TItem, TNode};
+use svr_typed::{NoMemory, TExpr, TItem, TNode};
 
-// 255 + 1 at 8 bits, and as an item.
+fn byte(value: u64) -> TExpr
+    ensures { expr_term result ≡ term.typed 8 false (term.number value false) }
+{
+    TExpr::new(8, false, TNode::number(value, false))
+}
+
+fn sum(alloc: Global) -> Result<TExpr, NoMemory>
+    ensures { IfOk result (λ e. expr_term e ≡ term.typed 8 false (term.binary bin.Add (term.typed 8 false (term.number 255 false)) (term.typed 8 false (term.number 1 false)))) }
+{
+    let node = TNode::binary(alloc, BinOp::Add, byte(255), byte(1))?;
+    Ok(TExpr::new(8, false, node))
+}
+
+fn value_of_sum(alloc: Global, a: &Assign, env: &Env) -> Result<u64, NoMemory> {
+    let sum = sum(alloc)?;
+    Ok(value(&sum, a, env).value())
+}
+
+fn sum_holds(alloc: Global, a: &Assign, env: &Env) -> Result<bool, NoMemory> {
+    let sum = sum(alloc)?;
+    let item = TItem::plain(false, sum, None);
+    Ok(holds(&item, a, env))
+}
+
+fn is_zero(alloc: Global, a: &Assign, env: &Env) -> Result<bool, NoMemory> {
+    let value = value_of_sum(alloc, a, env)?;
+    let is_met = sum_holds(alloc, a, env)?;
+    Ok(value == 0 && !is_met)
+}
+
 #[test]
 fn sum_without_its_carry(rt: HostRuntime) -> Result<(), Fail> {
-    let alloc = rt.alloc();
     let a = Assign {
-        values: Items::new(alloc),
-        sizes: Items::new(alloc),
-        script: Items::new(alloc),
+        values: Items::new(rt.alloc()),
+        sizes: Items::new(rt.alloc()),
+        script: Items::new(rt.alloc()),
     };
     let env = Env::new();
-    let left = TExpr::new(8, false, TNode::number(255, false));
-    let right = TExpr::new(8, false, TNode::number(1, false));
-    let sum = TExpr::new(8, false, TNode::binary(alloc, BinOp::Add, left, right)?);
-    assert_eq!(rt; value(&sum, &a, &env).value(), 0);
-    assert!(rt; !holds(&TItem::plain(false, sum, None), &a, &env));
+    assert!(rt; is_zero(rt.alloc(), &a, &env)?);
     Ok(())
 }
