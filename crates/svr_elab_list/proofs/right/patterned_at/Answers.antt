@@ -1,0 +1,8 @@
+use Rattle.svr_elab_part.specs.Seen.{part_of}
+use Rattle.svr_elab_stmt.specs.Seen.{stmt_part, values_part}
+use Rattle.svr_elab_list.proofs.Forms.{patterned_is}
+use Rattle.svr_elab_list.proofs.right.patterned_at.Goals as goal
+
+pub returns-clause-value : goal.returns-clause-value
+returns-clause-value c =
+    patterned_is (part_of c.args.target) c.args.at (values_part c.in_ok-right.right) _ (stmt_part c.patterned.result) c.patterned.ensures.value c.in_ok-right.ensures

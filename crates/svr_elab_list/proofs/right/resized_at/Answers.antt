@@ -1,0 +1,9 @@
+use Rattle.svr_elab_part.specs.Seen.{part_of}
+use Rattle.svr_elab_type.specs.Seen.{constant_part}
+use Rattle.svr_elab_stmt.specs.Seen.{stmt_part}
+use Rattle.svr_elab_list.proofs.Forms.{resized_is}
+use Rattle.svr_elab_list.proofs.right.resized_at.Goals as goal
+
+pub returns-clause-value : goal.returns-clause-value
+returns-clause-value c =
+    resized_is (part_of c.args.target) (constant_part c.in_ok-right.right) _ (stmt_part c.resized.result) c.resized.ensures.value c.in_ok-right.ensures.value

@@ -1,0 +1,12 @@
+use Rattle.std.proofs.Common.{map, ap}
+use Rattle.svr_tree.specs.StmtTree.{stmt_tree}
+use Rattle.svr_tree.specs.ScriptTree.{unit_tree}
+use Rattle.svr_elab_names.specs.Tables.{space_of}
+use Rattle.svr_elab_unit.specs.Seen.{valued_part}
+use Rattle.svr_elab_unit.proofs.Runs.{run_is}
+use Rattle.svr_elab_unit.proofs.top.run_behind.Goals as goal
+
+pub returns : goal.returns
+returns c =
+    run_is (space_of c.args.names.now) c.args.stands.now (unit_tree c.args.unit.now) c.args.made.now.keys (valued_part _ c.in_ok-valued.valued) _ _
+    c.requires.made c.in_ok-valued.ensures.value c.in_ok-all.ensures (ap (map stmt_tree) c.as_slice.ensures)

@@ -1,0 +1,6 @@
+pub mod Turned
+pub mod Fixed
+pub mod OfState
+pub mod Closed
+pub mod Changes
+pub mod Answered

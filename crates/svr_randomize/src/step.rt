@@ -1,0 +1,54 @@
+// One call, from world to world.
+
+ghost use Rattle.std.specs.Prelude.{◌≡◌, ◌≤◌, ℕ, OnErr, OnOk, IfOk};
+ghost use Rattle.svr_world.specs.World.{IsMade, object_of};
+ghost use Rattle.svr_world.specs.Fits.{FitsClass};
+ghost use Rattle.svr_frame.specs.Frame.{frame_term};
+ghost use Rattle.svr_frame.specs.Sound.{IsSound};
+ghost use Rattle.svr_call.specs.Call.{CallStep};
+ghost use Rattle.svr_hard.specs.Hard.{IsHard};
+ghost use Rattle.svr_randomize.specs.Answers.{changed, CanBeWritten};
+
+use crate::answer::Answer;
+use crate::memory::NoMemory;
+use crate::phases::answer_in;
+use std::alloc::Global;
+use svr_call::Outcome;
+use svr_frame::Frame;
+use svr_phase::Options;
+use svr_world::{Change, World};
+
+/// Writes what an answer changes, which takes no memory.
+fn write(world: &mut World, object: u32, change: Option<Change>)
+    requires made { IsMade world.old object }
+    requires plain { CanBeWritten change }
+    ensures { world.new ≡ changed world.old object change }
+{
+    if let Some(change) = change {
+        world.commit(object, change);
+    }
+}
+
+/// One call of `randomize` (IEEE 1800-2017, 18.6) on an object, in a frame of hard items. All memory is taken before the world is changed.
+pub fn randomize(
+    alloc: Global,
+    world: &mut World,
+    object: u32,
+    frame: &Frame,
+    number: u64,
+    opts: Options,
+) -> Result<Outcome, NoMemory>
+    requires sound { IsSound (frame_term frame.now) }
+    requires hard { IsHard (frame_term frame.now) }
+    requires budget { 1 ≤ opts.budget }
+    requires cap { opts.size_cap ≤ 2048 }
+    requires made { IsMade world.old object }
+    ensures step { IfOk result (λ outcome. CallStep world.old object (frame_term frame.now) number opts outcome world.new) }
+    ensures fits { OnOk result (FitsClass (frame_term frame.now).class (object_of world.old object) → FitsClass (frame_term frame.now).class (object_of world.new object)) }
+    ensures failed { OnErr result (world.new ≡ world.old) }
+{
+    let found = answer_in(alloc, frame, number, opts)?;
+    let Answer { outcome, change } = found;
+    write(world, object, change);
+    Ok(outcome)
+}

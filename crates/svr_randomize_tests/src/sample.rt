@@ -1,0 +1,199 @@
+//! A call with one item, and a world with its object.
+
+ghost use Rattle.std.specs.Prelude.{◌≡◌, ◌∷◌, [], None, replicate, IfOk};
+ghost use Rattle.svr_typed.specs.ExprTerm.{expr_term};
+ghost use Rattle.svr_typed.specs.ItemTerm.{item_term, plain};
+ghost use Rattle.svr_typed.specs.ClassTerm.{flat_term};
+ghost use Rattle.svr_world.specs.World.{declared_classes, IsMade};
+ghost use Rattle.svr_frame.specs.Frame.{frame_term};
+ghost use Rattle.svr_frame.specs.Sound.{IsSound};
+ghost use Rattle.svr_randomize_tests.specs.declared.form.Form.TheVariants as form;
+ghost use Rattle.svr_randomize_tests.specs.Sample as spec;
+
+use crate::form::Form;
+use sqlite_items::Items;
+use std::alloc::Global;
+use svr_eval::Assign;
+use svr_frame::Frame;
+use svr_operator::{BinOp, Rand};
+use svr_typed::{
+    ArrayKind, Design, EnumType, FlatClass, NoMemory, NumType, Prop, TBlock, TClass, TExpr, TItem,
+    TNode, TStmt, TVar, Text, VarKind,
+};
+use svr_world::World;
+
+fn declared(alloc: Global, rand: Rand, array: ArrayKind, width: u8, can: bool) -> Prop
+    ensures { result ≡ spec.declared rand array width can }
+{
+    Prop {
+        name: Text::from_vec(Vec::new(alloc)),
+        kind: NumType {
+            width,
+            signed: false,
+            members: None,
+        },
+        rand,
+        array,
+        first: 0,
+        low: 0,
+        can,
+        inner: 1,
+    }
+}
+
+fn class(alloc: Global) -> Result<FlatClass, NoMemory>
+    ensures { IfOk result (λ class. flat_term class ≡ spec.sample_class) }
+{
+    let mut props = Items::<Prop>::new(alloc);
+    props.push(declared(alloc, Rand::Rand, ArrayKind::Scalar, 8, true))?;
+    props.push(declared(alloc, Rand::Rand, ArrayKind::Scalar, 8, true))?;
+    props.push(declared(alloc, Rand::State, ArrayKind::Fixed(200), 1, false))?;
+    Ok(FlatClass {
+        props,
+        blocks: Items::<TBlock>::new(alloc),
+    })
+}
+
+fn byte(prop: u32) -> TExpr
+    ensures { expr_term result ≡ spec.byte prop }
+{
+    TExpr::new(8, false, TNode::prop(prop))
+}
+
+fn bits(width: u8, value: u64) -> TExpr
+    ensures { expr_term result ≡ spec.bits width value }
+{
+    TExpr::new(width, false, TNode::number(value, false))
+}
+
+fn applied(alloc: Global, op: BinOp) -> Result<TExpr, NoMemory>
+    ensures { IfOk result (λ e. expr_term e ≡ spec.applied op) }
+{
+    Ok(TExpr::new(8, false, TNode::binary(alloc, op, byte(0), byte(1))?))
+}
+
+fn compared(
+    alloc: Global,
+    soft: bool,
+    op: BinOp,
+    left: TExpr,
+    right: TExpr,
+) -> Result<TItem, NoMemory>
+    ensures { IfOk result (λ i. item_term i ≡ plain soft (spec.compared op (expr_term left) (expr_term right)) None) }
+{
+    let test = TExpr::new(1, false, TNode::binary(alloc, op, left, right)?);
+    Ok(TItem::plain(soft, test, None))
+}
+
+fn alone(alloc: Global, item: TItem) -> Result<Items<TItem>, NoMemory>
+    ensures { IfOk result (λ items. items ≡ item ∷ []) }
+{
+    let mut items = Items::<TItem>::new(alloc);
+    items.push(item)?;
+    Ok(items)
+}
+
+fn heavy(alloc: Global) -> Result<TItem, NoMemory>
+    ensures { IfOk result (λ i. item_term i ≡ spec.item_of form.Heavy) }
+{
+    let product = applied(alloc, BinOp::Multiply)?;
+    let inner = compared(alloc, false, BinOp::Equal, product, bits(64, 257))?;
+    Ok(TItem::foreach(2, 1, 1, alone(alloc, inner)?))
+}
+
+fn item(alloc: Global, form: Form) -> Result<TItem, NoMemory>
+    ensures { IfOk result (λ i. item_term i ≡ spec.item_of form) }
+{
+    match form {
+        Form::Free => compared(alloc, false, BinOp::Equal, byte(0), byte(0)),
+        Form::Sum => {
+            let sum = applied(alloc, BinOp::Add)?;
+            compared(alloc, false, BinOp::Equal, sum, bits(16, 300))
+        }
+        Form::Never => compared(alloc, false, BinOp::NotEqual, byte(0), byte(0)),
+        Form::Product => {
+            let product = applied(alloc, BinOp::Multiply)?;
+            compared(alloc, false, BinOp::Equal, product, bits(16, 257))
+        }
+        Form::Heavy => heavy(alloc),
+        Form::Soft => compared(alloc, true, BinOp::Equal, byte(0), bits(8, 1)),
+    }
+}
+
+fn zeros(alloc: Global, count: usize) -> Result<Items<u64>, NoMemory>
+    ensures { IfOk result (λ numbers. numbers ≡ replicate count 0) }
+{
+    let numbers = vec![in alloc; 0; count]?;
+    Ok(Items::from_vec(numbers))
+}
+
+fn state(alloc: Global) -> Result<Assign, NoMemory>
+    ensures { IfOk result (λ state. state ≡ (spec.frame_for form.Free).state) }
+{
+    let mut values = Items::<Items<u64>>::new(alloc);
+    values.push(Items::from_slice(alloc, &[0])?)?;
+    values.push(Items::from_slice(alloc, &[0])?)?;
+    values.push(zeros(alloc, 200)?)?;
+    Ok(Assign {
+        values,
+        sizes: Items::from_slice(alloc, &[1, 1, 200])?,
+        script: Items::<u64>::new(alloc),
+    })
+}
+
+fn framed(alloc: Global, form: Form) -> Result<Frame, NoMemory>
+    ensures { IfOk result (λ frame. frame_term frame ≡ spec.frame_for form) }
+{
+    Ok(Frame {
+        class: class(alloc)?,
+        enums: Items::<EnumType>::new(alloc),
+        state: state(alloc)?,
+        random: Items::from_slice(alloc, &[true, true, false])?,
+        free_size: Items::from_slice(alloc, &[false, false, false])?,
+        items: alone(alloc, item(alloc, form)?)?,
+    })
+}
+
+/// The call that asks a form.
+pub(crate) fn sample(alloc: Global, form: Form) -> Result<Frame, NoMemory>
+    ensures { IfOk result (λ frame. IsSound (frame_term frame)) }
+{
+    let frame = framed(alloc, form)?;
+    Ok(frame)
+}
+
+/// One variable for objects of the class 0.
+fn design(alloc: Global) -> Result<Design, NoMemory>
+    ensures { IfOk result (λ d. declared_classes d.vars ≡ 0 ∷ []) }
+{
+    let mut vars = Items::<TVar>::new(alloc);
+    vars.push(TVar {
+        name: Text::from_vec(Vec::new(alloc)),
+        kind: VarKind::Object(0),
+    })?;
+    Ok(Design {
+        enums: Items::<EnumType>::new(alloc),
+        classes: Items::<TClass>::new(alloc),
+        vars,
+        stmts: Items::<TStmt>::new(alloc),
+    })
+}
+
+fn made(alloc: Global, design: &Design, class: &FlatClass) -> Result<World, NoMemory>
+    requires vars { declared_classes design.now.vars ≡ 0 ∷ [] }
+    requires class { flat_term class.now ≡ spec.sample_class }
+    ensures { IfOk result (λ w. IsMade w 0) }
+{
+    let mut world = World::new(alloc, design)?;
+    world.make(alloc, 0, class)?;
+    Ok(world)
+}
+
+/// A world in which the variable 0 has an object.
+pub(crate) fn world(alloc: Global) -> Result<World, NoMemory>
+    ensures { IfOk result (λ w. IsMade w 0) }
+{
+    let design = design(alloc)?;
+    let class = class(alloc)?;
+    made(alloc, &design, &class)
+}
