@@ -1,0 +1,9 @@
+use Rattle.svr_elab_names.specs.Tables.{prop_of}
+use Rattle.svr_elab.specs.Script as spec
+use Rattle.svr_elab.proofs.Drawn.{known_next}
+use Rattle.svr_elab.proofs.property.next_property.Goals as goal
+
+pub returns-in_ok-all-in-Some : goal.returns-in_ok-all-in-Some
+returns-in_ok-all-in-Some c =
+    known_next prop_of spec.property c.args.known c.in_ok-all-in-Some.all c.args.props.now.entries c.args.place (c.in-Some.name.now, c.in-Some.entry.now) c.in_ok-next-in-Some.next
+    c.in-Some.ensures.entry c.in_ok-next-in-Some.ensures c.in_ok-all-in-Some.ensures

@@ -1,0 +1,4 @@
+pub mod Gathered
+pub mod Promise
+pub mod Script
+pub mod Seen

@@ -1,0 +1,5 @@
+pub mod Entries
+pub mod ReadDecls
+pub mod ReadItems
+pub mod ReadScript
+pub mod ReadStmts
