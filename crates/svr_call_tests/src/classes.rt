@@ -1,5 +1,6 @@
 // With ample memory each copy is made, and a class is flattened.
 
+use crate::held::{both, is_made, let_go, pushed};
 use sqlite_items::Items;
 use std::alloc::Global;
 use std::test::Fail;
@@ -9,25 +10,6 @@ use svr_typed::{
     ArrayKind, Design, EnumType, FlatClass, NoMemory, NumType, Prop, TBlock, TBound, TClass,
     TDistItem, TExpr, TItem, TNode, TRange, TStmt, TVar, Text,
 };
-
-/// Both, or the first error. No tree is held where its caller may give up.
-fn both<A: Drop, B: Drop>(
-    first: Result<A, NoMemory>,
-    second: Result<B, NoMemory>,
-) -> Result<(A, B), NoMemory> {
-    let first = first?;
-    Ok((first, second?))
-}
-
-/// The list with one more at its end.
-fn pushed<T: Drop>(mut list: Items<T>, one: Result<T, NoMemory>) -> Result<Items<T>, NoMemory> {
-    list.push(one?)?;
-    Ok(list)
-}
-
-fn is_made<T: Drop>(made: Result<T, NoMemory>) -> bool {
-    made.is_ok()
-}
 
 /// An expression with others below it.
 enum Form {
@@ -106,8 +88,10 @@ fn node(alloc: Global, form: &Form) -> Result<TNode, NoMemory> {
 }
 
 fn is_copied(alloc: Global, form: &Form) -> Result<bool, NoMemory> {
-    let node = node(alloc, form)?;
-    Ok(is_made(copy_expr(alloc, &TExpr::new(32, true, node))))
+    let e = TExpr::new(32, true, node(alloc, form)?);
+    let copy = copy_expr(alloc, &e);
+    let_go(e);
+    Ok(is_made(copy))
 }
 
 #[test]
@@ -194,7 +178,9 @@ fn item(alloc: Global, form: &ItemForm) -> Result<TItem, NoMemory> {
 
 fn is_item_copied(alloc: Global, form: &ItemForm) -> Result<bool, NoMemory> {
     let item = item(alloc, form)?;
-    Ok(is_made(copy_item(alloc, &item)))
+    let copy = copy_item(alloc, &item);
+    let_go(item);
+    Ok(is_made(copy))
 }
 
 #[test]
@@ -270,7 +256,9 @@ fn flat(alloc: Global, class: u32) -> Result<FlatClass, NoMemory> {
         Items::<TVar>::new(alloc),
         Items::<TStmt>::new(alloc),
     );
-    flatten(alloc, &design, class)
+    let flat = flatten(alloc, &design, class);
+    let_go(design);
+    flat
 }
 
 /// Whether the item is just this number.
@@ -312,13 +300,17 @@ fn has_own_block_last(flat: &FlatClass) -> bool {
 #[test]
 fn a_derived_class_has_its_own_block_last(rt: HostRuntime) -> Result<(), Fail> {
     let flat = flat(rt.alloc(), 1)?;
-    assert!(rt; has_both_properties(&flat) && has_own_block_last(&flat));
+    let is_so = has_both_properties(&flat) && has_own_block_last(&flat);
+    let_go(flat);
+    assert!(rt; is_so);
     Ok(())
 }
 
 #[test]
 fn a_number_of_no_class_has_nothing(rt: HostRuntime) -> Result<(), Fail> {
     let none = flat(rt.alloc(), 2)?;
-    assert!(rt; none.props.is_empty() && none.blocks.is_empty());
+    let is_so = none.props.is_empty() && none.blocks.is_empty();
+    let_go(none);
+    assert!(rt; is_so);
     Ok(())
 }

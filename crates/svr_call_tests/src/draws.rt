@@ -5,6 +5,7 @@ ghost use Rattle.svr_typed.specs.ClassTerm.{flat_term};
 ghost use Rattle.svr_frame.specs.Frame.{frame_term};
 ghost use Rattle.svr_draw.specs.Examples.{sample_frame};
 
+use crate::held::let_go;
 use sqlite_items::Items;
 use std::alloc::Global;
 use std::test::Fail;
@@ -102,7 +103,9 @@ fn told(alloc: Global, frame: &Frame, part: Part, size: u32) -> Result<(u32, u64
     requires limit { size ≤ 2048 }
 {
     let found = preferred_at(alloc, frame, part, size)?;
-    Ok((found.size(1), found.element(0, 0), found.element(1, 0)))
+    let told = (found.size(1), found.element(0, 0), found.element(1, 0));
+    let_go(found);
+    Ok(told)
 }
 
 /// Whether each part takes what the parts before it leave.
@@ -118,6 +121,8 @@ fn are_in_order(alloc: Global, frame: &Frame) -> Result<bool, NoMemory>
 #[test]
 fn sizes_come_first(rt: HostRuntime) -> Result<(), Fail> {
     let frame = sample(rt.alloc())?;
-    assert!(rt; are_in_order(rt.alloc(), &frame)?);
+    let found = are_in_order(rt.alloc(), &frame);
+    let_go(frame);
+    assert!(rt; found?);
     Ok(())
 }

@@ -8,4 +8,6 @@ mod classes;
 #[cfg(test)]
 mod draws;
 #[cfg(test)]
+mod held;
+#[cfg(test)]
 mod objects;

@@ -4,6 +4,7 @@ ghost use Rattle.std.specs.Prelude.{◌≡◌, ◌≤◌, ◌+◌, ◌-◌, ◌^
 ghost use Rattle.svr_limits.specs.declared.limit.TheConstants.{ELEMENT_LIMIT};
 ghost use Rattle.svr_world.specs.Fits.{AreShort, AreRising, AreSmall};
 
+use crate::held::let_go;
 use sqlite_items::Items;
 use std::alloc::Global;
 use std::test::Fail;
@@ -168,7 +169,9 @@ fn has_modes(world: &World, modes: &[bool; 4]) -> bool {
 #[test]
 fn nothing_is_made_at_first(rt: HostRuntime) -> Result<(), Fail> {
     let world = blank(rt.alloc())?;
-    assert!(rt; !world.is_made(OBJECT));
+    let is_made = world.is_made(OBJECT);
+    let_go(world);
+    assert!(rt; !is_made);
     Ok(())
 }
 
@@ -190,14 +193,18 @@ fn starts_switched_on(world: &World) -> bool {
 #[test]
 fn an_object_starts_with_initial_values(rt: HostRuntime) -> Result<(), Fail> {
     let world = made(rt.alloc())?;
-    assert!(rt; starts_with_values(&world) && starts_switched_on(&world));
+    let is_so = starts_with_values(&world) && starts_switched_on(&world);
+    let_go(world);
+    assert!(rt; is_so);
     Ok(())
 }
 
 #[test]
 fn an_object_is_made_of_its_class(rt: HostRuntime) -> Result<(), Fail> {
     let world = made(rt.alloc())?;
-    assert!(rt; world.is_made(OBJECT) && !world.is_made(0) && world.class_of(OBJECT) == 3);
+    let is_so = world.is_made(OBJECT) && !world.is_made(0) && world.class_of(OBJECT) == 3;
+    let_go(world);
+    assert!(rt; is_so);
     Ok(())
 }
 
@@ -252,7 +259,9 @@ fn keeps_all(alloc: Global, world: &mut World) -> Result<bool, NoMemory> {
 #[test]
 fn writes_and_sizes_stay(rt: HostRuntime) -> Result<(), Fail> {
     let mut world = made(rt.alloc())?;
-    assert!(rt; keeps_all(rt.alloc(), &mut world)?);
+    let found = keeps_all(rt.alloc(), &mut world);
+    let_go(world);
+    assert!(rt; found?);
     Ok(())
 }
 
@@ -291,7 +300,9 @@ fn are_switched(world: &mut World) -> bool {
 #[test]
 fn modes_are_switched(rt: HostRuntime) -> Result<(), Fail> {
     let mut world = made(rt.alloc())?;
-    assert!(rt; are_switched(&mut world));
+    let is_so = are_switched(&mut world);
+    let_go(world);
+    assert!(rt; is_so);
     Ok(())
 }
 
@@ -362,6 +373,8 @@ fn is_changed(alloc: Global, world: &mut World) -> Result<bool, NoMemory> {
 #[test]
 fn a_change_replaces_what_it_names(rt: HostRuntime) -> Result<(), Fail> {
     let mut world = made(rt.alloc())?;
-    assert!(rt; is_changed(rt.alloc(), &mut world)?);
+    let found = is_changed(rt.alloc(), &mut world);
+    let_go(world);
+    assert!(rt; found?);
     Ok(())
 }

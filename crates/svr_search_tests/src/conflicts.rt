@@ -4,6 +4,7 @@ ghost use Rattle.std.specs.Prelude.{◌≡◌, [], IfSome};
 ghost use Rattle.svr_trail.specs.Trail.{IsFault};
 
 use crate::clauses::{cnf, lits};
+use crate::memory::let_go;
 use std::alloc::Global;
 use std::marker::Brand;
 use std::sync::ledger::{Blank, Ledger};
@@ -35,31 +36,36 @@ fn propagate(search: &mut Search) -> Option<u64>
 /// How many literals explain that the clauses conflict, nothing where they do not.
 fn explained(search: &mut Search) -> Result<Option<usize>, NoMemory> {
     match propagate(search) {
-        Some(number) => Ok(Some(search.explain(number, None)?.lits.lits().len())),
+        Some(number) => {
+            let explained = search.explain(number, None)?;
+            let count = explained.lits.lits().len();
+            let_go(explained);
+            Ok(Some(count))
+        }
         None => Ok(None),
     }
 }
 
-/// Whether the negation of 1 is learned as the second clause, and is in conflict.
+/// Whether nothing conflicts, until the negation of 1 is learned as the second clause.
 fn conflicts(alloc: Global, search: &mut Search) -> Result<bool, NoMemory>
     requires vars { search.old.vars ≡ 1 }
     requires level { search.old.ends ≡ [] }
 {
+    if propagate(search).is_some() || search.level() != 0 {
+        return Ok(false);
+    }
     let number = search.learn(Clause::new(lits(alloc, 1, &[-1])?))?;
     Ok(number == 2 && explained(search)? == Some(0))
 }
 
-/// Whether the clause 1 conflicts with its negation, and with nothing before that is learned.
-fn explains(alloc: Global) -> Result<bool, NoMemory> {
-    let mut search = Search::new(alloc, &cnf(alloc, 1, &[&[1]])?)?;
-    if propagate(&mut search).is_some() || search.level() != 0 {
-        return Ok(false);
-    }
-    conflicts(alloc, &mut search)
-}
-
 #[test]
 fn explains_a_conflict_at_level_0(rt: HostRuntime) -> Result<(), Fail> {
-    assert!(rt; explains(rt.alloc())?);
+    let cnf = cnf(rt.alloc(), 1, &[&[1]])?;
+    let search = Search::new(rt.alloc(), &cnf);
+    let_go(cnf);
+    let mut search = search?;
+    let found = conflicts(rt.alloc(), &mut search);
+    let_go(search);
+    assert!(rt; found?);
     Ok(())
 }

@@ -1,6 +1,7 @@
 // Logs and their verdicts.
 
 use crate::clauses::{cnf, lit};
+use crate::memory::let_go;
 use std::alloc::{AllocError, Global};
 use std::test::Fail;
 use svr_chain::{Cnf, Link, NoMemory, Reason, Refutation, Step, Verdict, check};
@@ -171,13 +172,18 @@ fn judged(
     goal: Option<u64>,
 ) -> Result<Verdict, NoMemory> {
     let steps = steps(alloc, chains)?;
-    check(alloc, cnf, &[lit(3, assume)], &Refutation { steps, goal })
+    let log = Refutation { steps, goal };
+    let verdict = check(alloc, cnf, &[lit(3, assume)], &log);
+    let_go(log);
+    verdict
 }
 
 fn is_judged(alloc: Global, case: &Case) -> Result<bool, NoMemory> {
     let (clauses, assume, chains, goal, verdict) = case;
     let cnf = cnf(alloc, 3, clauses)?;
-    Ok(judged(alloc, &cnf, *assume, chains, *goal)? == *verdict)
+    let found = judged(alloc, &cnf, *assume, chains, *goal);
+    let_go(cnf);
+    Ok(found? == *verdict)
 }
 
 #[test]

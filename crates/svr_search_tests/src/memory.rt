@@ -1,4 +1,4 @@
-// Want of memory.
+// Want of memory, and values that are let go.
 
 use std::alloc::{AllocError, AllocFailed};
 
@@ -29,3 +29,6 @@ impl From<svr_query::NoMemory> for NoMemory {
         NoMemory
     }
 }
+
+/// Lets a value go: the drop of a type parameter is proved once, and a caller that hands on what it holds has none of its own.
+pub(crate) fn let_go<T: Drop>(_held: T) {}

@@ -4,6 +4,7 @@ ghost use Rattle.std.specs.Prelude.{◌≡◌, ◌<◌, ◌^◌, ◌++◌, true,
 ghost use Rattle.svr_chain.specs.Clauses.{AreWithin, is_tautology};
 
 use crate::clauses::{are_within, cnf, lits};
+use crate::memory::let_go;
 use std::alloc::{AllocError, Global};
 use std::test::Fail;
 use svr_chain::{Lit, have_opposites};
@@ -156,7 +157,9 @@ fn pass_told(
         return Ok(Vec::new(alloc));
     }
     let end = pass(alloc, solver, base, soft, prefer, 10)?;
-    Ok(told(alloc, &end)?)
+    let told = told(alloc, &end);
+    let_go(end);
+    Ok(told?)
 }
 
 fn is_told(alloc: Global, case: &Case) -> Result<bool, NoMemory> {
@@ -165,8 +168,9 @@ fn is_told(alloc: Global, case: &Case) -> Result<bool, NoMemory> {
     let base = lits(alloc, vars, case.base)?;
     let soft = lits(alloc, vars, case.soft)?;
     let mut solver = Solver::new(alloc, cnf(alloc, vars, case.clauses)?)?;
-    let told = pass_told(alloc, &mut solver, &base, &soft, &prefer)?;
-    Ok(told.as_slice() == case.told)
+    let told = pass_told(alloc, &mut solver, &base, &soft, &prefer);
+    let_go(solver);
+    Ok(told?.as_slice() == case.told)
 }
 
 #[test]

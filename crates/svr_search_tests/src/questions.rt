@@ -3,6 +3,7 @@
 ghost use Rattle.std.specs.Prelude.{◌≡◌, ◌≤◌, IfOk};
 
 use crate::clauses::cnf;
+use crate::memory::let_go;
 use std::alloc::Global;
 use std::test::Fail;
 use svr_chain::{Cnf, Lit, Refutation, Verdict, check};
@@ -34,10 +35,13 @@ fn is_possible(solver: &mut Solver, wanted: &[bool]) -> Result<bool, NoMemory>
     ensures { solver.new.vars ≡ 2 }
 {
     let one = Lit { var: 1, neg: false };
-    match solver.ask(&[one], &[false, false], 10)? {
-        Answer::Satisfied(values) => Ok(values.as_slice() == wanted),
-        Answer::Refuted(_) | Answer::Spent { .. } => Ok(false),
-    }
+    let answer = solver.ask(&[one], &[false, false], 10)?;
+    let is_so = match &answer {
+        Answer::Satisfied(values) => values.as_slice() == wanted,
+        Answer::Refuted(_) | Answer::Spent { .. } => false,
+    };
+    let_go(answer);
+    Ok(is_so)
 }
 
 /// Whether 1 and not 2 is refuted by the first clause alone.
@@ -46,20 +50,27 @@ fn is_refuted_at_once(solver: &mut Solver) -> Result<bool, NoMemory>
 {
     let one = Lit { var: 1, neg: false };
     let not_two = Lit { var: 2, neg: true };
-    match solver.ask(&[one, not_two], &[false, false], 10)? {
-        Answer::Refuted(log) => Ok(log.steps.is_empty() && log.goal == Some(1)),
-        Answer::Satisfied(_) | Answer::Spent { .. } => Ok(false),
-    }
+    let answer = solver.ask(&[one, not_two], &[false, false], 10)?;
+    let is_so = match &answer {
+        Answer::Refuted(log) => log.steps.is_empty() && log.goal == Some(1),
+        Answer::Satisfied(_) | Answer::Spent { .. } => false,
+    };
+    let_go(answer);
+    Ok(is_so)
 }
 
-fn answers_under_assumptions(alloc: Global) -> Result<bool, NoMemory> {
-    let mut solver = solver(alloc, &[&[-1, 2]])?;
-    Ok(is_possible(&mut solver, &[true, true])? && is_refuted_at_once(&mut solver)?)
+fn answers_both(solver: &mut Solver) -> Result<bool, NoMemory>
+    requires { solver.old.vars ≡ 2 }
+{
+    Ok(is_possible(solver, &[true, true])? && is_refuted_at_once(solver)?)
 }
 
 #[test]
 fn asks_under_assumptions(rt: HostRuntime) -> Result<(), Fail> {
-    assert!(rt; answers_under_assumptions(rt.alloc())?);
+    let mut solver = solver(rt.alloc(), &[&[-1, 2]])?;
+    let found = answers_both(&mut solver);
+    let_go(solver);
+    assert!(rt; found?);
     Ok(())
 }
 
@@ -68,10 +79,13 @@ fn is_spent(solver: &mut Solver) -> Result<bool, NoMemory>
     requires { solver.old.vars ≡ 2 }
     ensures { solver.new.vars ≡ 2 }
 {
-    match solver.ask(&[], &[false, false], 1)? {
-        Answer::Spent { log, first } => Ok(first == 0 && log.steps.len() == 1),
-        Answer::Satisfied(_) | Answer::Refuted(_) => Ok(false),
-    }
+    let answer = solver.ask(&[], &[false, false], 1)?;
+    let is_so = match &answer {
+        Answer::Spent { log, first } => *first == 0 && log.steps.len() == 1,
+        Answer::Satisfied(_) | Answer::Refuted(_) => false,
+    };
+    let_go(answer);
+    Ok(is_so)
 }
 
 /// The log that no values are possible.
@@ -81,12 +95,25 @@ fn refutation(solver: &mut Solver, budget: u64) -> Result<Option<Refutation>, No
 {
     match solver.ask(&[], &[false, false], budget)? {
         Answer::Refuted(log) => Ok(Some(log)),
-        Answer::Satisfied(_) | Answer::Spent { .. } => Ok(None),
+        other => {
+            let_go(other);
+            Ok(None)
+        }
     }
 }
 
-fn is_accepted(alloc: Global, cnf: &Cnf, log: &Refutation) -> Result<bool, NoMemory> {
-    match check(alloc, cnf, &[], log) {
+/// Whether there is a log, and it is accepted.
+fn is_accepted(
+    alloc: Global,
+    cnf: &Cnf,
+    log: Result<Option<Refutation>, NoMemory>,
+) -> Result<bool, NoMemory> {
+    let Some(log) = log? else {
+        return Ok(false);
+    };
+    let verdict = check(alloc, cnf, &[], &log);
+    let_go(log);
+    match verdict {
         Ok(verdict) => Ok(verdict == Verdict::Accepted),
         Err(_) => Err(NoMemory),
     }
@@ -97,23 +124,19 @@ fn is_refuted(alloc: Global, mut solver: Solver, budget: u64) -> Result<bool, No
     requires vars { solver.vars ≡ 2 }
     requires budget { 1 ≤ budget }
 {
-    match refutation(&mut solver, budget)? {
-        Some(log) => is_accepted(alloc, &solver.into_cnf(), &log),
-        None => Ok(false),
-    }
-}
-
-fn refutes_after_one_step(alloc: Global) -> Result<bool, NoMemory> {
-    let mut solver = solver(alloc, ALL_PAIRS)?;
-    if !is_spent(&mut solver)? {
-        return Ok(false);
-    }
-    is_refuted(alloc, solver, 10)
+    let log = refutation(&mut solver, budget);
+    let cnf = solver.into_cnf();
+    let found = is_accepted(alloc, &cnf, log);
+    let_go(cnf);
+    found
 }
 
 #[test]
 fn refutes_all_pairs(rt: HostRuntime) -> Result<(), Fail> {
-    assert!(rt; refutes_after_one_step(rt.alloc())?);
+    let mut solver = solver(rt.alloc(), ALL_PAIRS)?;
+    let is_spent = is_spent(&mut solver);
+    let found = is_refuted(rt.alloc(), solver, 10);
+    assert!(rt; is_spent? && found?);
     Ok(())
 }
 

@@ -4,7 +4,7 @@ ghost use Rattle.std.specs.Prelude.{◌≡◌, ◌<◌, ◌≤◌};
 
 use crate::circuit::{Built, Gate, build, values_at};
 use crate::clauses::are_within;
-use crate::memory::NoMemory;
+use crate::memory::{NoMemory, let_go};
 use std::alloc::Global;
 use std::test::Fail;
 use svr_chain::{Lit, have_opposites};
@@ -113,11 +113,14 @@ fn asked(
     if !are_within(built.vars, &assume) || budget == 0 {
         return Ok(None);
     }
-    match built.solver.ask(&assume, &prefer, budget)? {
-        Answer::Satisfied(_) => Ok(Some(true)),
-        Answer::Refuted(_) => Ok(Some(false)),
-        Answer::Spent { .. } => Ok(None),
-    }
+    let answer = built.solver.ask(&assume, &prefer, budget)?;
+    let told = match &answer {
+        Answer::Satisfied(_) => Some(true),
+        Answer::Refuted(_) => Some(false),
+        Answer::Spent { .. } => None,
+    };
+    let_go(answer);
+    Ok(told)
 }
 
 /// Whether the signals have the values of the wishes.
@@ -195,7 +198,9 @@ fn agrees(
 fn is_answered(alloc: Global, count: u32, rows: u64, state: &mut u64) -> Result<bool, NoMemory> {
     let gates = random_gates(alloc, count, 4 * count as usize, count as u64)?;
     let mut built = build(alloc, count, &gates)?;
-    agrees(alloc, &mut built, count, &gates, rows, state)
+    let found = agrees(alloc, &mut built, count, &gates, rows, state);
+    let_go(built);
+    found
 }
 
 #[test]
@@ -214,7 +219,9 @@ fn is_refuted(alloc: Global, count: u32, budget: u64) -> Result<bool, NoMemory> 
         signal: built.signals.len().saturating_sub(1),
         value: true,
     };
-    Ok(asked(alloc, &mut built, &[wish], budget)? == Some(false))
+    let told = asked(alloc, &mut built, &[wish], budget);
+    let_go(built);
+    Ok(told? == Some(false))
 }
 
 #[test]

@@ -1,121 +1,56 @@
 // Texts with their tokens or their fault.
 use std::alloc::Global;
 use svr_lex::{LexFault, lex};
-use svr_token::Kind::{self, Literal, Mark, Name, System};
-use svr_token::Token;
+use svr_token::{Kind, Token};
 
-const TOKENS: [(&[u8], &[(Kind, u32, u32)]); 46] = [
-    (b"", &[]),
-    (b" \t\r\n\x0c", &[]),
-    (b"rand bit", &[(Name, 0, 4), (Name, 5, 8)]),
-    (b"_a$9", &[(Name, 0, 4)]),
-    (b"4's", &[(Literal, 0, 1), (Mark, 1, 2), (Name, 2, 3)]),
-    (b"4'{", &[(Literal, 0, 1), (Mark, 1, 3)]),
-    (b"4'0", &[(Literal, 0, 1), (Literal, 1, 3)]),
-    (b"'1", &[(Literal, 0, 2)]),
-    (b"'x", &[(Mark, 0, 1), (Name, 1, 2)]),
-    (b"'s", &[(Mark, 0, 1), (Name, 1, 2)]),
-    (b"'2", &[(Mark, 0, 1), (Literal, 1, 2)]),
-    (b"8'shF_f", &[(Literal, 0, 7)]),
-    (b"'o17", &[(Literal, 0, 4)]),
-    (b"1_6'd9", &[(Literal, 0, 6)]),
-    (b"64'hffff_ffff_ffff_ffff", &[(Literal, 0, 23)]),
-    (b"64'd99999999999999999999", &[(Literal, 0, 24)]),
-    (b"4294967295", &[(Literal, 0, 10)]),
-    (b"1_", &[(Literal, 0, 2)]),
-    (
-        b"a<<<=b",
-        &[(Name, 0, 1), (Mark, 1, 4), (Mark, 4, 5), (Name, 5, 6)],
-    ),
-    (b"<->", &[(Mark, 0, 3)]),
-    (b"<-", &[(Mark, 0, 1), (Mark, 1, 2)]),
-    (b"<=>", &[(Mark, 0, 2), (Mark, 2, 3)]),
-    (b"===!==", &[(Mark, 0, 3), (Mark, 3, 6)]),
-    (b"====", &[(Mark, 0, 3), (Mark, 3, 4)]),
-    (
-        b"~^~&~|^~~",
-        &[
-            (Mark, 0, 2),
-            (Mark, 2, 4),
-            (Mark, 4, 6),
-            (Mark, 6, 8),
-            (Mark, 8, 9),
-        ],
-    ),
-    (
-        b"&&&|||",
-        &[(Mark, 0, 2), (Mark, 2, 3), (Mark, 3, 5), (Mark, 5, 6)],
-    ),
-    (
-        b":::=:/::",
-        &[(Mark, 0, 2), (Mark, 2, 4), (Mark, 4, 6), (Mark, 6, 8)],
-    ),
-    (b">>>->", &[(Mark, 0, 3), (Mark, 3, 5)]),
-    (b">=>>", &[(Mark, 0, 2), (Mark, 2, 4)]),
-    (
-        b"(){};,.?",
-        &[
-            (Mark, 0, 1),
-            (Mark, 1, 2),
-            (Mark, 2, 3),
-            (Mark, 3, 4),
-            (Mark, 4, 5),
-            (Mark, 5, 6),
-            (Mark, 6, 7),
-            (Mark, 7, 8),
-        ],
-    ),
-    (
-        b"+-*~-&>",
-        &[
-            (Mark, 0, 1),
-            (Mark, 1, 2),
-            (Mark, 2, 3),
-            (Mark, 3, 4),
-            (Mark, 4, 5),
-            (Mark, 5, 6),
-            (Mark, 6, 7),
-        ],
-    ),
-    (
-        b"%!^|=",
-        &[
-            (Mark, 0, 1),
-            (Mark, 1, 2),
-            (Mark, 2, 3),
-            (Mark, 3, 4),
-            (Mark, 4, 5),
-        ],
-    ),
-    (b"$", &[(Mark, 0, 1)]),
-    (
-        b"[$:5]",
-        &[
-            (Mark, 0, 1),
-            (Mark, 1, 2),
-            (Mark, 2, 3),
-            (Literal, 3, 4),
-            (Mark, 4, 5),
-        ],
-    ),
-    (
-        b"$signed(a)",
-        &[(System, 0, 7), (Mark, 7, 8), (Name, 8, 9), (Mark, 9, 10)],
-    ),
-    (b"$unsigned", &[(System, 0, 9)]),
-    (b"$$", &[(Mark, 0, 1), (Mark, 1, 2)]),
-    (b"a//b\nc", &[(Name, 0, 1), (Name, 5, 6)]),
-    (b"a//b\rc", &[(Name, 0, 1)]),
-    (b"a//", &[(Name, 0, 1)]),
-    (b"/**/a", &[(Name, 4, 5)]),
-    (b"/***/a", &[(Name, 5, 6)]),
-    (b"/* /* */ */", &[(Mark, 9, 10), (Mark, 10, 11)]),
-    (b"a/b", &[(Name, 0, 1), (Mark, 1, 2), (Name, 2, 3)]),
-    (
-        b"a/ *b",
-        &[(Name, 0, 1), (Mark, 1, 2), (Mark, 3, 4), (Name, 4, 5)],
-    ),
-    (b"// /*\na", &[(Name, 6, 7)]),
+/// Texts with the marks of their tokens: a great letter for the kind of a token at its first byte, small ones at its others, and a blank at what is of no token.
+const TOKENS: [(&[u8], &[u8]); 46] = [
+    (b"", b""),
+    (b" \t\r\n\x0c", b"     "),
+    (b"rand bit", b"Nnnn Nnn"),
+    (b"_a$9", b"Nnnn"),
+    (b"4's", b"LMN"),
+    (b"4'{", b"LMm"),
+    (b"4'0", b"LLl"),
+    (b"'1", b"Ll"),
+    (b"'x", b"MN"),
+    (b"'s", b"MN"),
+    (b"'2", b"ML"),
+    (b"8'shF_f", b"Lllllll"),
+    (b"'o17", b"Llll"),
+    (b"1_6'd9", b"Llllll"),
+    (b"64'hffff_ffff_ffff_ffff", b"Lllllllllllllllllllllll"),
+    (b"64'd99999999999999999999", b"Llllllllllllllllllllllll"),
+    (b"4294967295", b"Llllllllll"),
+    (b"1_", b"Ll"),
+    (b"a<<<=b", b"NMmmMN"),
+    (b"<->", b"Mmm"),
+    (b"<-", b"MM"),
+    (b"<=>", b"MmM"),
+    (b"===!==", b"MmmMmm"),
+    (b"====", b"MmmM"),
+    (b"~^~&~|^~~", b"MmMmMmMmM"),
+    (b"&&&|||", b"MmMMmM"),
+    (b":::=:/::", b"MmMmMmMm"),
+    (b">>>->", b"MmmMm"),
+    (b">=>>", b"MmMm"),
+    (b"(){};,.?", b"MMMMMMMM"),
+    (b"+-*~-&>", b"MMMMMMM"),
+    (b"%!^|=", b"MMMMM"),
+    (b"$", b"M"),
+    (b"[$:5]", b"MMMLM"),
+    (b"$signed(a)", b"SssssssMNM"),
+    (b"$unsigned", b"Sssssssss"),
+    (b"$$", b"MM"),
+    (b"a//b\nc", b"N    N"),
+    (b"a//b\rc", b"N     "),
+    (b"a//", b"N  "),
+    (b"/**/a", b"    N"),
+    (b"/***/a", b"     N"),
+    (b"/* /* */ */", b"         MM"),
+    (b"a/b", b"NMN"),
+    (b"a/ *b", b"NM MN"),
+    (b"// /*\na", b"      N"),
 ];
 
 const FAULTS: [(&[u8], LexFault); 40] = [
@@ -164,33 +99,65 @@ const FAULTS: [(&[u8], LexFault); 40] = [
     (b"1 /* 2 */ 65'd1 0'd1", LexFault::LiteralTooWide { at: 10 }),
 ];
 
-/// Whether these are the tokens: each by its kind and its bytes.
-fn are(tokens: &[Token], wanted: &[(Kind, u32, u32)]) -> bool {
-    if tokens.len() != wanted.len() {
-        return false;
+/// The marks of a token: at its first byte, and at its others.
+fn marks_of(kind: Kind) -> (u8, u8) {
+    match kind {
+        Kind::Literal => (b'L', b'l'),
+        Kind::Mark => (b'M', b'm'),
+        Kind::Name => (b'N', b'n'),
+        Kind::System => (b'S', b's'),
     }
-    for (token, (kind, start, stop)) in tokens.iter().zip(wanted.iter()) {
-        if token.kind != *kind || token.start != *start || token.stop != *stop {
+}
+
+fn are_all(marks: &[u8], mark: u8) -> bool {
+    for one in marks {
+        if *one != mark {
             return false;
         }
     }
     true
 }
 
-fn has_tokens(alloc: Global, text: &[u8], wanted: &[(Kind, u32, u32)]) -> bool {
-    if text.len() > 100 {
+/// Whether blanks from `before` on lead to the token, and it is marked.
+fn is_marked(token: &Token, before: u32, marks: &[u8]) -> bool {
+    let (first, other) = marks_of(token.kind);
+    let (start, stop) = (token.start as usize, token.stop as usize);
+    match (marks.get(before as usize..start), marks.get(start..stop)) {
+        (Some(blanks), Some([one, others @ ..])) => {
+            are_all(blanks, b' ') && *one == first && are_all(others, other)
+        }
+        _ => false,
+    }
+}
+
+fn are_marked(tokens: &[Token], marks: &[u8]) -> bool {
+    let mut at = 0;
+    for token in tokens {
+        if !is_marked(token, at, marks) {
+            return false;
+        }
+        at = token.stop;
+    }
+    match marks.get(at as usize..) {
+        Some(rest) => are_all(rest, b' '),
+        None => false,
+    }
+}
+
+fn has_tokens(alloc: Global, text: &[u8], marks: &[u8]) -> bool {
+    if text.len() > 100 || text.len() != marks.len() {
         return false;
     }
     match lex(alloc, text) {
-        Ok(tokens) => are(&tokens, wanted),
+        Ok(tokens) => are_marked(&tokens, marks),
         Err(_) => false,
     }
 }
 
 #[test]
 fn tokens(rt: HostRuntime) {
-    for (text, wanted) in &TOKENS {
-        assert!(rt; has_tokens(rt.alloc(), text, wanted), "at {text:?}");
+    for (text, marks) in &TOKENS {
+        assert!(rt; has_tokens(rt.alloc(), text, marks), "at {text:?}");
     }
 }
 
