@@ -1,6 +1,8 @@
 // The answer of the call, or the refusal of the script.
-ghost use Rattle.std.specs.Prelude.{◌≡◌, ◌≤◌, length, IfOk};
+ghost use Rattle.std.specs.Prelude.{◌≡◌, ◌≤◌, length, [], IfOk};
 ghost use Rattle.svr_token.specs.Tokens.{IsTokenized};
+ghost use Rattle.svr_token.specs.Names.{names_of};
+ghost use Rattle.svr_elab.specs.Script.{faults_of};
 ghost use Rattle.svr_tree.specs.ScriptTree.{script_tree};
 ghost use Rattle.svr_parse.specs.Parse.{IsTreeOf};
 ghost use Rattle.svr_limits.specs.declared.limit.TheConstants.{TEXT_LIMIT};
@@ -8,7 +10,7 @@ ghost use Rattle.svrand.specs.Outcome.{Answers, prints};
 
 use crate::draw::preferred;
 use crate::line::{NOWHERE, line_of_one, line_of_zero, refused_at};
-use crate::refusal::{lexical, syntactic};
+use crate::refusal::{lexical, semantic, syntactic};
 use crate::status::Status;
 use std::alloc::{AllocError, Global};
 use svr_bits::bit_class;
@@ -26,11 +28,12 @@ pub struct Answer {
     pub text: Vec<u8>,
 }
 
-/// The answer to a script that was read: the line of its one call, or its refusal.
+/// The answer to a script in which nothing is refused: the line of its one call, or that it is not answered yet.
 fn call(alloc: Global, seed: u64, names: &Names<'_>, script: &Script) -> Result<Answer, AllocError>
     requires small { length names.now.text.now ≤ TEXT_LIMIT }
     requires tokens { IsTokenized names.now.text.now names.now.tokens.now }
     requires tree { IsTreeOf names.now.text.now names.now.tokens.now (script_tree script.now) }
+    requires clear { faults_of (names_of names.now) (script_tree script.now) ≡ [] }
     ensures { IfOk result (λ a. Answers seed names.now.text.now a.status (prints a.text.items)) }
 {
     let class = match bit_class(alloc, names, script) {
@@ -79,6 +82,12 @@ pub fn answer_of(alloc: Global, seed: u64, text: &[u8]) -> Result<Answer, AllocE
             });
         }
     };
+    if let Some(line) = semantic(alloc, text, &tokens, &script)? {
+        return Ok(Answer {
+            status: Status::Refused,
+            text: line,
+        });
+    }
     let names = Names {
         text,
         tokens: &tokens,

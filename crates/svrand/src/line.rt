@@ -69,13 +69,13 @@ pub fn line_of_zero(alloc: Global, class: &BitClass<'_>) -> Result<Vec<u8>, Allo
 /// What stands for the place of a refusal that has none.
 pub const NOWHERE: Place = Place { line: 0, column: 0 };
 
-/// The line of a refusal at a place.
-pub fn refused_at(alloc: Global, place: Place, why: Refusal) -> Result<Vec<u8>, AllocError>
-    ensures { IfOk result (λ v. v.items ≡ spec.refused_at place why) }
+/// The line of a refusal of this number at a place.
+pub fn refused_as(alloc: Global, place: Place, number: u8) -> Result<Vec<u8>, AllocError>
+    ensures { IfOk result (λ v. v.items ≡ spec.refused_as place number) }
 {
     let line = place.line.to_string(alloc)?;
     let column = place.column.to_string(alloc)?;
-    let number = why.number().to_string(alloc)?;
+    let number = number.to_string(alloc)?;
     join(
         alloc,
         &[
@@ -88,4 +88,11 @@ pub fn refused_at(alloc: Global, place: Place, why: Refusal) -> Result<Vec<u8>, 
             b"\n",
         ],
     )
+}
+
+/// The line of a refusal at a place.
+pub fn refused_at(alloc: Global, place: Place, why: Refusal) -> Result<Vec<u8>, AllocError>
+    ensures { IfOk result (λ v. v.items ≡ spec.refused_at place why) }
+{
+    refused_as(alloc, place, why.number())
 }

@@ -198,7 +198,7 @@ const ANSWERS: [(&[u8], Status, &[u8]); 10] = [
     (
         b"rand bit a; constraint a { }",
         Status::Refused,
-        b"refused 0:0 28\n",
+        b"refused 2:24 8\n",
     ),
     (
         b"rand bit a; constraint c { soft a == 1; }",
@@ -246,6 +246,46 @@ fn refusals(rt: HostRuntime) -> Result<(), Fail> {
         b"p.randomize() with { a == 5;",
     )?;
     assert!(rt; says(rt.alloc(), &open, Status::Refused, b"refused 8:1 5\n")?);
+    Ok(())
+}
+
+// What a class with these items and these statements behind its object is refused for.
+const MEANINGS: [(&[u8], &[u8], &[u8]); 7] = [
+    (
+        b"rand bit a; constraint c { b == 1; }",
+        b"p.randomize();",
+        b"refused 2:28 7\n",
+    ),
+    (b"rand bit a;", b"q.randomize();", b"refused 7:1 7\n"),
+    (
+        b"rand bit a; rand bit a;",
+        b"p.randomize();",
+        b"refused 2:22 8\n",
+    ),
+    (b"rand bit [64:0] a;", b"p.randomize();", b"refused 2:6 9\n"),
+    (
+        b"randc bit [8:0] a;",
+        b"p.randomize();",
+        b"refused 2:17 13\n",
+    ),
+    (b"rand bit a;", b"P q; q.randomize();", b"refused 7:6 26\n"),
+    // The first in the text is told.
+    (
+        b"rand bit a; constraint c { b == 1; }",
+        b"q.randomize();",
+        b"refused 2:28 7\n",
+    ),
+];
+
+#[test]
+fn meanings(rt: HostRuntime) -> Result<(), Fail> {
+    for (i, (items, stmts, line)) in MEANINGS.iter().enumerate() {
+        let text = script(rt.alloc(), items, stmts)?;
+        assert!(rt;
+            says(rt.alloc(), &text, Status::Refused, line)?,
+            "meaning {i}"
+        );
+    }
     Ok(())
 }
 

@@ -14,3 +14,8 @@ parse-requires-clause-spelled c =
 
 pub returns-in-Err-parse : goal.returns-in-Err-parse
 returns-in-Err-parse c = inr (c.requires, c.in_ok-syntactic-in-Err-parse.field-0.items, c.in_ok-syntactic-in-Err-parse.ensures, refl)
+
+pub returns-in-Some : goal.returns-in-Some
+returns-in-Some c =
+    let refused = rw c.in-Some.is at c.in_ok-line.ensures.some in
+    inr (c.requires, c.in-Some.line.items, refused, refl)

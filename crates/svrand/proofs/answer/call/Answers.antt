@@ -14,7 +14,7 @@ returns-in-Ok-None c =
     inr (
       c.requires.small,
       c.in_ok-refused_at-in-Ok-None.field-0.items,
-      by_form c.args.names.now.tokens.now (script_tree c.args.script.now) c.requires.tokens c.requires.tree (sym none) c.in_ok-refused_at-in-Ok-None.ensures,
+      by_form c.args.names.now.tokens.now (script_tree c.args.script.now) c.requires.tokens c.requires.tree c.requires.clear (sym none) c.in_ok-refused_at-in-Ok-None.ensures,
       refl,
     )
 
@@ -31,6 +31,7 @@ returns-in-Some c =
       tree = script_tree c.args.script.now;
       tokenized = c.requires.tokens;
       reading = c.requires.tree;
+      clear = c.requires.clear;
       class = sym form;
     } in
     let answer = rw c.in-Some.is at c.in_ok-values.ensures.some in (
@@ -51,6 +52,7 @@ returns c =
       tree = script_tree c.args.script.now;
       tokenized = c.requires.tokens;
       reading = c.requires.tree;
+      clear = c.requires.clear;
       class = sym form;
     } in
     let none = rw c.in-None.is at c.in_ok-values.ensures.none in (
