@@ -1,0 +1,9 @@
+pub mod Roots
+pub mod Rooting
+pub mod Sole
+pub mod Trees
+pub mod Places
+pub mod Members
+pub mod Dealt
+pub mod Standing
+pub mod Whole
