@@ -1,0 +1,107 @@
+-- The value of a copy over all objects is that of the expression of a statement.
+use Rattle.std.proofs.Common.{◌≡◌, ◌<◌, ◌≤◌, ◌+◌, ℕ, zero, suc, max, Bool, refl, sym, ◌∙◌, ap, subst, List, [], ◌∷◌, ◌++◌, length, drop, get_or, drop-cons, add-one, append_assoc, arith}
+use Rattle.svr_num.specs.Num.{read_of}
+use Rattle.svr_typed.specs.declared.expr.TExpr.{TExpr, fold_out-TExpr}
+use Rattle.svr_typed.specs.ExprTerm.{ExprTerm, NodeTerm, RangeTerm, BoundTerm, ExprTerms, no_exprs, more_exprs, typed, expr_term, expr_terms, node_term, bound_step, node_step, range_step, expr_step}
+use Rattle.svr_eval.specs.Reading.{Reading}
+use Rattle.svr_eval.specs.Value.{size_of, sign_of, val, alone}
+use Rattle.svr_eval.specs.Typed.{IsTyped, CanRead}
+use Rattle.svr_world.specs.World.{WorldTerm}
+use Rattle.svr_script.specs.Numbered.{numbered, reading_of_world}
+use Rattle.svr_script.specs.Statement.{all_assigned}
+use Rattle.svr_effect.specs.Computed.{alone_over, assigned_over, all_assigned_over}
+use Rattle.svr_effect.specs.Stands.{IsComputable, AreComputable, many}
+
+stored : (t : TExpr) → expr_term t ≡ typed t.width t.signed (node_term t.node)
+stored t = fold_out-TExpr BoundTerm NodeTerm RangeTerm ExprTerm bound_step node_step range_step expr_step t
+
+own_width : (t : TExpr) → IsTyped (expr_term t) → size_of (expr_term t) ≡ t.width
+own_width t h = ap size_of (stored t) ∙ (subst IsTyped (stored t) h).2
+
+own_signed : (t : TExpr) → IsTyped (expr_term t) → sign_of (expr_term t) ≡ t.signed
+own_signed t h = ap sign_of (stored t) ∙ (subst IsTyped (stored t) h).3
+
+at_most : (t : TExpr) → IsTyped (expr_term t) → t.width ≤ 64
+at_most t h = (subst IsTyped (stored t) h).1
+
+abbrev width_in : ExprTerm → ℕ
+width_in (typed w s n) = w
+
+abbrev signed_in : ExprTerm → Bool
+signed_in (typed w s n) = s
+
+module _ (r : Reading) (e over : TExpr) (env : List ℕ) (copied : expr_term over ≡ numbered (expr_term e)) (outside : env ≡ []) (h : IsComputable r (expr_term e)) where
+  pub typed_over : IsTyped (expr_term over)
+  typed_over = subst IsTyped (sym copied) h.typed
+
+  pub reads_over : CanRead r (length env) (expr_term over)
+  reads_over = subst (λ (is : List ℕ). CanRead r (length is) (expr_term over)) (sym outside) (subst (λ (x : ExprTerm). CanRead r 0 x) (sym copied) h.reads)
+
+  same_width : over.width ≡ e.width
+  same_width = sym (ap width_in (stored over)) ∙ ap width_in copied ∙ ap (λ (x : ExprTerm). width_in (numbered x)) (stored e)
+
+  same_size : size_of (expr_term over) ≡ size_of (expr_term e)
+  same_size = own_width over typed_over ∙ same_width ∙ sym (own_width e h.own)
+
+  same_signed : over.signed ≡ e.signed
+  same_signed = sym (ap signed_in (stored over)) ∙ ap signed_in copied ∙ ap (λ (x : ExprTerm). signed_in (numbered x)) (stored e)
+
+  same_sign : sign_of (expr_term over) ≡ sign_of (expr_term e)
+  same_sign = own_signed over typed_over ∙ same_signed ∙ sym (own_signed e h.own)
+
+  -- alone
+  pub size_alone : size_of (expr_term over) ≡ size_of (expr_term e)
+  size_alone = same_size
+
+  pub value_alone : alone r env (expr_term over) ≡ alone_over r (expr_term e)
+  value_alone = λ k. val r (outside k) (copied k) (same_size k) (same_sign k)
+
+  -- at a width that is no less than its own
+  pub wide_at : (width : ℕ) → over.width ≤ max width e.width
+  wide_at width = omega (arith, same_width)
+
+  pub high_at : (width : ℕ) → width ≤ 64 → max width e.width ≤ 64
+  high_at width le = omega (arith, le, at_most e h.own)
+
+  pub value_at : (width : ℕ) → val r env (expr_term over) (max width e.width) e.signed ≡ val r [] (numbered (expr_term e)) (max width (size_of (expr_term e))) (sign_of (expr_term e))
+  value_at width = λ k. val r (outside k) (copied k) (max width (sym (own_width e h.own) k)) (sym (own_signed e h.own) k)
+
+-- a value as a number
+pub place_same : (r : Reading) (e : TExpr) → IsComputable r (expr_term e) → (width value : ℕ) → width ≡ size_of (expr_term e) → value ≡ alone_over r (expr_term e)
+    → read_of e.signed width value ≡ read_of (sign_of (expr_term e)) (size_of (expr_term e)) (alone_over r (expr_term e))
+place_same r e h width value size is = λ k. read_of (sym (own_signed e h.own) k) (size k) (is k)
+
+-- ---- a list of values
+
+pub one_computable : (r : Reading) (es : List TExpr) (i : ℕ) (x : TExpr) → i < length es → x ≡ get_or es i x → AreComputable r (expr_terms es) → IsComputable r (expr_term x)
+one_computable r [] i x lt is h = absurd (omega (arith, lt))
+one_computable r (e ∷ es) zero x lt is h = subst (λ (y : TExpr). IsComputable r (expr_term y)) (sym is) h.0
+one_computable r (e ∷ es) (suc i) x lt is h = one_computable r es i x (omega (arith, lt)) is h.1
+
+pub one_assigned : (r : Reading) (width : ℕ) (es : List TExpr) (i : ℕ) (x : TExpr) (numbers : List ℕ) (value : ℕ) → i < length es → x ≡ get_or es i x → value ≡ assigned_over r width (expr_term x)
+    → numbers ++ all_assigned_over r width (expr_terms (drop i es)) ≡ all_assigned_over r width (expr_terms es)
+    → (numbers ++ value ∷ []) ++ all_assigned_over r width (expr_terms (drop (i + 1) es)) ≡ all_assigned_over r width (expr_terms es)
+one_assigned r width es i x numbers value lt is got before =
+    let opened : drop i es ≡ x ∷ drop (i + 1) es = drop-cons es i x lt ∙ (λ k. sym is k ∷ drop (sym (add-one i) k) es) in
+    append_assoc numbers (value ∷ []) (all_assigned_over r width (expr_terms (drop (i + 1) es)))
+    ∙ ap (λ v. numbers ++ v ∷ all_assigned_over r width (expr_terms (drop (i + 1) es))) got
+    ∙ ap (λ (xs : List TExpr). numbers ++ all_assigned_over r width (expr_terms xs)) (sym opened)
+    ∙ before
+
+-- ---- over the objects of a world
+
+pub computable_over : (w : WorldTerm) (r : Reading) (e : ExprTerm) → r ≡ reading_of_world w → IsComputable (reading_of_world w) e → IsComputable r e
+computable_over w r e is h = subst (λ (x : Reading). IsComputable x e) (sym is) h
+
+pub all_computable_over : (w : WorldTerm) (r : Reading) (es : ExprTerms) → r ≡ reading_of_world w → AreComputable (reading_of_world w) es → AreComputable r es
+all_computable_over w r es is h = subst (λ (x : Reading). AreComputable x es) (sym is) h
+
+pub all_in_world : (w : WorldTerm) (r : Reading) (width : ℕ) (es : ExprTerms) → r ≡ reading_of_world w → all_assigned_over r width es ≡ all_assigned w width es
+all_in_world w r width no_exprs is = refl
+all_in_world w r width (more_exprs e es) is = λ k. assigned_over (is k) width e ∷ all_in_world w r width es is k
+
+-- ---- how long it is
+
+pub all_long : (r : Reading) (width : ℕ) (es : ExprTerms) → length (all_assigned_over r width es) ≡ many es
+all_long r width no_exprs = refl
+all_long r width (more_exprs e es) = ap suc (all_long r width es)

@@ -1,0 +1,5 @@
+pub mod Computed
+pub mod Copies
+pub mod Together
+pub mod Written
+pub mod Flats

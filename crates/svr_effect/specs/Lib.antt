@@ -1,0 +1,4 @@
+pub mod Inherited
+pub mod Objects
+pub mod Computed
+pub mod Stands

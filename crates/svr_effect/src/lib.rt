@@ -1,0 +1,16 @@
+//! What the statements of a script other than calls do (IEEE 1800-2017, clauses 8, 10 and 18): `execute` makes `effect` of `svr_script` of the world.
+//!
+//! What crates above cite beside it: `Stands` (what has to hold before a statement is executed), `AreClasses` (the classes of a design), and `IsWhole` (no more objects than variables).
+#![tactic(auto)]
+
+mod classes;
+mod declared;
+mod effects;
+mod memory;
+mod numbered;
+mod objects;
+mod values;
+
+pub use classes::Classes;
+pub use declared::class_of_var;
+pub use effects::execute;

@@ -1,0 +1,107 @@
+// The values of the expressions of statements (IEEE 1800-2017, 10.7 and 11.6), over an assignment of all objects.
+
+ghost use Rattle.std.specs.Prelude.{◌≡◌, max, IfOk};
+ghost use Rattle.svr_num.specs.Num.{read_of};
+ghost use Rattle.svr_typed.specs.ExprTerm.{expr_term, expr_terms};
+ghost use Rattle.svr_eval.specs.Reading.{reading_of};
+ghost use Rattle.svr_eval.specs.Value.{size_of, sign_of};
+ghost use Rattle.svr_effect.specs.Computed.{alone_over, assigned_over, all_assigned_over, is_on_over};
+ghost use Rattle.svr_effect.specs.Objects.{placed};
+ghost use Rattle.svr_effect.specs.Stands.{IsComputable, AreComputable, IsWide};
+
+use crate::numbered::numbered;
+use sqlite_items::Items;
+use std::alloc::Global;
+use svr_eval::{Assign, Env, value, value_at};
+use svr_num::Bits;
+use svr_typed::{NoMemory, TExpr};
+
+/// The value of an expression alone.
+pub(crate) fn alone(alloc: Global, objects: &Assign, e: &TExpr) -> Result<Bits, NoMemory>
+    requires { IsComputable (reading_of objects.now) (expr_term e.now) }
+    ensures value { IfOk result (λ v. v.value ≡ alone_over (reading_of objects.now) (expr_term e.now)) }
+    ensures width { IfOk result (λ v. v.width ≡ size_of (expr_term e.now)) }
+{
+    let over_all = numbered(alloc, e)?;
+    let outside = Env::new();
+    Ok(value(&over_all, objects, &outside))
+}
+
+/// The greater of two widths.
+fn wider(first: u8, second: u8) -> u8
+    ensures { result ≡ max first second }
+{
+    first.max(second)
+}
+
+/// The value that a left side of so many bits takes: computed at the greater of the two sizes, and cut.
+pub(crate) fn assigned(
+    alloc: Global,
+    objects: &Assign,
+    width: u8,
+    e: &TExpr,
+) -> Result<u64, NoMemory>
+    requires computed { IsComputable (reading_of objects.now) (expr_term e.now) }
+    requires wide { IsWide width }
+    ensures { IfOk result (λ v. v ≡ assigned_over (reading_of objects.now) width (expr_term e.now)) }
+{
+    let over_all = numbered(alloc, e)?;
+    let whole = wider(width, e.width);
+    let outside = Env::new();
+    let computed = value_at(&over_all, whole, e.signed, objects, &outside);
+    Ok(computed.cut(width).value())
+}
+
+/// The values that the elements of an array of so many bits take.
+pub(crate) fn all_assigned(
+    alloc: Global,
+    objects: &Assign,
+    width: u8,
+    values: &[TExpr],
+) -> Result<Items<u64>, NoMemory>
+    requires computed { AreComputable (reading_of objects.now) (expr_terms values.now) }
+    requires wide { IsWide width }
+    ensures { IfOk result (λ numbers. numbers ≡ all_assigned_over (reading_of objects.now) width (expr_terms values.now)) }
+{
+    let mut numbers = Items::new(alloc);
+    for e in values {
+        numbers.push(assigned(alloc, objects, width, e)?)?;
+    }
+    Ok(numbers)
+}
+
+/// A value as a place; none where it has a sign and its highest bit is 1, which makes it negative.
+fn place_of(value: Bits, signed: bool) -> Option<u64>
+    ensures { result ≡ placed (read_of signed value.width value.value) }
+{
+    if !signed {
+        return Some(value.value());
+    }
+    if value.signed() < 0 {
+        None
+    } else {
+        Some(value.value())
+    }
+}
+
+/// The place that an index names, none where it is negative.
+pub(crate) fn place_read(
+    alloc: Global,
+    objects: &Assign,
+    index: &TExpr,
+) -> Result<Option<u64>, NoMemory>
+    requires { IsComputable (reading_of objects.now) (expr_term index.now) }
+    ensures { IfOk result (λ place. place ≡ placed (read_of (sign_of (expr_term index.now)) (size_of (expr_term index.now)) (alone_over (reading_of objects.now) (expr_term index.now)))) }
+{
+    let value = alone(alloc, objects, index)?;
+    Ok(place_of(value, index.signed))
+}
+
+/// Whether a mode is to be on: the least bit says so.
+pub(crate) fn is_on(alloc: Global, objects: &Assign, e: &TExpr) -> Result<bool, NoMemory>
+    requires { IsComputable (reading_of objects.now) (expr_term e.now) }
+    ensures { IfOk result (λ on. on ≡ is_on_over (reading_of objects.now) (expr_term e.now)) }
+{
+    let value = alone(alloc, objects, e)?;
+    Ok(value.value() % 2 == 1)
+}
