@@ -1,5 +1,5 @@
 -- What is accepted among constraint blocks and in-line sets is lawful.
-use Rattle.std.proofs.Common.{◌≡◌, ◌≤◌, ◌+◌, ℕ, max, Bool, true, false, if◌then◌else◌, List, [], ◌∷◌, ◌++◌, length, Option, None, Some, option_map, refl, sym, subst, ◌∙◌, arith}
+use Rattle.std.proofs.Common.{◌≡◌, ◌≤◌, ◌+◌, ℕ, max, Bool, true, false, if◌then◌else◌, List, [], ◌∷◌, ◌++◌, length, map, Option, None, Some, refl, subst, arith}
 use Rattle.std.specs.Prelude.{⊤}
 use Rattle.std.specs.List.{list_any}
 use Rattle.svr_limits.specs.declared.limit.TheConstants.{HEIGHT_LIMIT}
@@ -8,27 +8,27 @@ use Rattle.svr_tree.specs.ItemTree.{ItemTree, ItemTrees}
 use Rattle.svr_tree.specs.ItemGrammar.{IsItem, IsBlockItem, AreItems, AreBlockItems, items_height}
 use Rattle.svr_tree.specs.DeclTree as decl
 use Rattle.svr_tree.specs.DeclTree.{BlockTree, ClassItemTree, ClassTree}
-use Rattle.svr_tree.specs.DeclGrammar.{IsClassItem, IsClass, greatest, class_item_height, class_height}
+use Rattle.svr_tree.specs.DeclGrammar.{IsClassItem, greatest, class_item_height, class_height}
 use Rattle.svr_tree.specs.Tokens.{Each}
 use Rattle.svr_typed.specs.declared.Prop.{Prop}
 use Rattle.svr_typed.specs.ItemTerm.{ItemTerm, items_of}
-use Rattle.svr_typed.specs.ClassTerm.{BlockTerm}
+use Rattle.svr_typed.specs.declared.TVar.{TVar}
+use Rattle.svr_typed.specs.ClassTerm.{BlockTerm, ClassTerm}
 use Rattle.svr_design.specs.Lawful.{EachFrom, Every, BlockStands}
 use Rattle.svr_elab_fault.specs.declared.Fault.{Fault}
-use Rattle.svr_elab_fault.specs.Refusals.{first_one, earlier}
+use Rattle.svr_elab_fault.specs.Refusals.{first_one}
 use Rattle.svr_elab_names.specs.declared.Region.TheVariants as region
 use Rattle.svr_elab_names.specs.Names.{Space, is_same}
 use Rattle.svr_elab_part.specs.Shapes.{and_more}
 use Rattle.svr_elab_part.proofs.Valued.{none_left, none_right}
 use Rattle.svr_elab_part.proofs.Looked.{OptionIs}
 use Rattle.svr_elab_expr_laws.specs.Known.{IsKnown}
-use Rattle.svr_elab_order.specs.declared.Order.{Order}
 use Rattle.svr_elab_item.specs.Fits.{ItemsFit}
 use Rattle.svr_elab_item.specs.Items.{ItemsElab, items, no_items, outside}
 use Rattle.svr_elab_item_laws.specs.Lawful.{ThereIs, IsNamed, IsPlace, AreLawful}
 use Rattle.svr_elab_item_laws.proofs.Trees.{known_map, known_more, accepted_items_have_trees}
 use Rattle.svr_elab_item_laws.proofs.Whole.{accepted_items_are_lawful}
-use Rattle.svr_elab_block.specs.Fits.{BodyFits, BodiesFit}
+use Rattle.svr_elab_block.specs.Fits.{BodyFits}
 use Rattle.svr_elab_block.specs.Blocks as spec
 use Rattle.svr_elab_block.specs.Blocks.{BodyElab, BodiesElab, in_class, block_term}
 use Rattle.svr_elab_block_laws.specs.Lawful.{AreRead, NamedFrom, PlacesFrom, AcceptedBlocksHaveTrees, BlocksStand, AcceptedBlocksAreLawful, AcceptedInLineIsLawful}
@@ -192,3 +192,25 @@ items_in_block (tree.more_items i is) h = (in_block i h.0, items_in_block is h.1
 
 pub accepted_in_line_is_lawful : AcceptedInLineIsLawful
 accepted_in_line_is_lawful ps vs n k is m l q b f = accepted_items_are_lawful ps vs (in_class n region.InLine k) is m l (items_in_block is q) b f
+
+-- ---- for whoever has a design
+
+-- in a block no script variable can be named
+pub without_vars : (ps : List Prop) (vs : List TVar) (n : Space) (k : ℕ) → IsPlace ps vs 0 (in_class n region.Block k) → IsPlace ps [] 0 (in_class n region.Block k)
+without_vars ps vs n k m = record {
+  stands = record { region = m.stands.region; props = m.stands.props; later = m.stands.later; loops = m.stands.loops; around = m.stands.around; vars = λ e. absurd (false_true e) };
+  fits = m.fits;
+  names = m.names;
+  same = m.same;
+  loops = m.loops;
+}
+
+of_classes : (props : ℕ → List Prop) (k : ℕ) (ds : List ClassTerm) → EachFrom (λ k bs. Every (BlockStands (props k)) bs) k (map (λ (c : ClassTerm). c.blocks) ds) → EachFrom (λ k (c : ClassTerm). Every (BlockStands (props k)) c.blocks) k ds
+of_classes props k [] h = tt
+of_classes props k (c ∷ ds) h = (h.0, of_classes props (k + 1) ds h.1)
+
+-- the blocks that elaboration gives, where they are those of these classes
+pub class_blocks_stand : (props : ℕ → List Prop) (n : Space) (cs : List ClassTree) (ds : List ClassTerm) → PlacesFrom props n 0 cs → AreRead cs → (spec.bodies first_one n (spec.no_bodies first_one) 0 cs).faults ≡ None
+    → (spec.bodies first_one n (spec.no_bodies first_one) 0 cs).blocks ≡ Some (map (λ (c : ClassTerm). c.blocks) ds) → EachFrom (λ k (c : ClassTerm). Every (BlockStands (props k)) c.blocks) 0 ds
+class_blocks_stand props n cs ds m r f e =
+    let P : Option (List (List BlockTerm)) → Type 0 = ThereIs (λ bs. BlocksStand props bs × (length bs ≡ length cs)) in of_classes props 0 ds (subst P e (accepted_blocks_are_lawful props n cs m r f)).0

@@ -1,5 +1,5 @@
 -- What is accepted among constraint blocks and in-line sets is lawful (IEEE 1800-2017, 18.5 and 18.7).
-use Rattle.std.specs.Prelude.{◌≡◌, ◌≤◌, ◌+◌, ℕ, List, [], ◌∷◌, length, Option, Some, None, ⊤}
+use Rattle.std.specs.Prelude.{◌≡◌, ◌≤◌, ◌+◌, ℕ, List, [], ◌∷◌, length, None, ⊤}
 use Rattle.svr_limits.specs.declared.limit.TheConstants.{HEIGHT_LIMIT}
 use Rattle.svr_typed.specs.declared.Prop.{Prop}
 use Rattle.svr_typed.specs.declared.TVar.{TVar}

@@ -1,12 +1,11 @@
 -- The members of a distribution stand where their parts do (IEEE 1800-2017, 18.5.4).
-use Rattle.std.proofs.Common.{◌≡◌, ◌≤◌, ◌+◌, ℕ, max, Bool, true, false, ◌||◌, List, [], ◌∷◌, ◌++◌, Option, None, Some, option_map, refl, sym, ap, subst, ◌∙◌, arith}
-use Rattle.std.specs.Prelude.{⊤}
+use Rattle.std.proofs.Common.{◌≡◌, ◌≤◌, ◌+◌, ℕ, max, Bool, true, false, ◌||◌, List, [], ◌∷◌, ◌++◌, Option, None, Some, option_map, refl, ap, ◌∙◌, arith}
 use Rattle.svr_limits.specs.declared.limit.TheConstants.{LOOP_LIMIT}
 use Rattle.svr_operator.specs.declared.Share.{Share}
 use Rattle.svr_refusal.specs.declared.Refusal.TheVariants as refusal
 use Rattle.svr_tree.specs.ExprTree as raw
 use Rattle.svr_tree.specs.ExprTree.{ExprTree, RangeTree, BoundTree}
-use Rattle.svr_tree.specs.ExprGrammar.{expr_height, range_height, bound_height}
+use Rattle.svr_tree.specs.ExprGrammar.{range_height, bound_height}
 use Rattle.svr_tree.specs.ItemTree.{DistItemTree}
 use Rattle.svr_tree.specs.ItemGrammar.{weight_height, dist_items_height}
 use Rattle.svr_typed.specs.declared.Prop.{Prop}
@@ -14,17 +13,16 @@ use Rattle.svr_typed.specs.declared.TVar.{TVar}
 use Rattle.svr_typed.specs.ExprTerm as term
 use Rattle.svr_typed.specs.ExprTerm.{ExprTerm, RangeTerm, BoundTerm}
 use Rattle.svr_typed.specs.ItemTerm.{DistTerm}
-use Rattle.svr_eval.specs.Typed.{IsTyped, RangeIsTyped, BoundIsTyped}
+use Rattle.svr_eval.specs.Typed.{RangeIsTyped, BoundIsTyped}
 use Rattle.svr_eval.specs.Holds.{WeightIsTyped, MembersAreTyped}
-use Rattle.svr_design.specs.Mentions as design
 use Rattle.svr_design.specs.Mentions.{is_cyclic_one, mentions, range_mentions, bound_mentions, weight_mentions, dist_mentions}
-use Rattle.svr_design.specs.Constraints.{Stands, BoundStands, WeightStands, DealtRange, AreDealt}
+use Rattle.svr_design.specs.Constraints.{BoundStands, WeightStands, DealtRange, AreDealt}
 use Rattle.svr_elab_fault.specs.declared.Fault.{Fault}
-use Rattle.svr_elab_fault.specs.Refusals.{first_one, when, earlier}
+use Rattle.svr_elab_fault.specs.Refusals.{first_one}
 use Rattle.svr_elab_names.specs.Names.{Space}
 use Rattle.svr_elab_part.specs.declared.part.Shape.{Shape}
 use Rattle.svr_elab_part.specs.declared.part.Reads.{Reads}
-use Rattle.svr_elab_part.specs.Fits.{LiteralsFit, RangeFits, BoundFits}
+use Rattle.svr_elab_part.specs.Fits.{RangeFits, BoundFits}
 use Rattle.svr_elab_part.specs.Elab as expr
 use Rattle.svr_elab_part.specs.Elab.{Elab, RangeElab, BoundElab}
 use Rattle.svr_elab_part.specs.Shapes.{both_known, and_more, is_open}
@@ -54,32 +52,17 @@ third_low d a b c m h = omega (arith, h)
 pub ors : (a b c d : Bool) → a ≡ b → c ≡ d → (a || c) ≡ (b || d)
 ors a b c d h k = ap (λ (x : Bool). x || c) h ∙ ap (λ (x : Bool). b || x) k
 
-or_or : (a b c : Bool) → ((a || b) || c) ≡ (a || (b || c))
-or_or true b c = refl
-or_or false b c = refl
-
-or_false : (a : Bool) → (a || (false || false)) ≡ a
-or_false true = refl
-or_false false = refl
-
 or_none : (a b : Bool) → (a || (b || false)) ≡ (a || b)
 or_none true b = refl
 or_none false true = refl
 or_none false false = refl
 
 module _ (ps : List Prop) (vs : List TVar) where
-  -- what is cyclic
-  abbrev pub Cyclic : ℕ → Bool
-  Cyclic p = is_cyclic_one ps p
-
   abbrev BoundIs : ℕ → Bool → BoundTerm → Type 0
   BoundIs depth c b = BoundStands ps vs depth b × BoundIsTyped b × (bound_mentions (is_cyclic_one ps) (is_cyclic_one ps) b ≡ c)
 
   abbrev RangeIs : ℕ → Bool → RangeTerm → Type 0
   RangeIs depth c r = DealtRange ps vs depth r × RangeIsTyped r × (range_mentions (is_cyclic_one ps) (is_cyclic_one ps) r ≡ c)
-
-  abbrev WeightIs : ℕ → Bool → Option (Share × ExprTerm) → Type 0
-  WeightIs depth c w = WeightStands ps vs depth w × WeightIsTyped w × (weight_mentions (is_cyclic_one ps) (is_cyclic_one ps) w ≡ c)
 
   abbrev DistMember : ℕ → Bool → DistTerm → Type 0
   DistMember depth c d =

@@ -1,6 +1,6 @@
 -- What may be an array stands as a member, and as the target of `disable soft`.
-use Rattle.std.proofs.Common.{◌≡◌, ◌≤◌, ◌+◌, ℕ, Bool, true, false, not, ◌&&◌, ◌||◌, List, Option, None, Some, option_map, refl, sym, ap, subst, ◌∙◌, inl, inr}
-use Rattle.std.specs.Prelude.{⊤, slice_get}
+use Rattle.std.proofs.Common.{◌≡◌, ◌≤◌, ◌+◌, ℕ, Bool, true, false, not, ◌&&◌, List, Option, None, Some, option_map, refl, sym, ap, subst, ◌∙◌, inl, inr}
+use Rattle.std.specs.Prelude.{slice_get}
 use Rattle.svr_limits.specs.declared.limit.TheConstants.{LOOP_LIMIT}
 use Rattle.svr_tree.specs.ExprTree.{ExprTree}
 use Rattle.svr_tree.specs.ExprGrammar.{expr_height}
@@ -10,7 +10,7 @@ use Rattle.svr_typed.specs.ExprTerm as term
 use Rattle.svr_typed.specs.ExprTerm.{ExprTerm, NodeTerm, typed}
 use Rattle.svr_eval.specs.Typed.{IsTyped}
 use Rattle.svr_design.specs.Types.{ArrayIs}
-use Rattle.svr_design.specs.Mentions.{is_random, is_cyclic_one}
+use Rattle.svr_design.specs.Mentions.{is_cyclic_one}
 use Rattle.svr_design.specs.Constraints.{Stands, MemberStands, IsNotCyclic, IsTarget}
 use Rattle.svr_elab_fault.specs.declared.Fault.{Fault}
 use Rattle.svr_elab_fault.specs.Refusals.{first_one}
@@ -28,13 +28,12 @@ use Rattle.svr_elab_part.specs.Elab as expr
 use Rattle.svr_elab_part.specs.Elab.{Elab}
 use Rattle.svr_elab_part.specs.Shapes.{kind_shape, property_tree}
 use Rattle.svr_elab_part.specs.Forms.{is_single, is_whole, is_refused, without_row}
-use Rattle.svr_elab_part.proofs.Valued.{none_left}
 use Rattle.svr_elab_part.proofs.Typed.{shape_of}
 use Rattle.svr_elab_part.proofs.Looked.{OptionIs}
 use Rattle.svr_elab_stand_laws.specs.Stand.{There}
 use Rattle.svr_elab_item.specs.Items.{is_property, is_cyclic_root, is_target, is_no_target}
 use Rattle.svr_elab_item_laws.specs.Lawful.{IsPlace}
-use Rattle.svr_elab_item_laws.proofs.Roots.{true_false, false_true, Rooted, RootIs, WholeIs, PropOf, NodeRooted, TargetNode, IfTarget, TreeRooted}
+use Rattle.svr_elab_item_laws.proofs.Roots.{true_false, false_true, Rooted, RootIs, WholeIs, PropOf, TargetNode, IfTarget, TreeRooted}
 use Rattle.svr_elab_item_laws.proofs.Sole.{not_not, by_extent, as_value, no_row}
 use Rattle.svr_elab_item_laws.proofs.Places.{Here, Fixed, declared, Valued, value_is, root_at}
 

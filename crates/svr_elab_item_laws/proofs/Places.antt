@@ -1,5 +1,5 @@
 -- Places in the constraints of a design, and what is known there of an expression in which nothing is refused.
-use Rattle.std.proofs.Common.{◌≡◌, ◌≤◌, ◌<◌, ◌+◌, ℕ, Bool, true, false, not, ◌&&◌, ◌||◌, List, [], ◌∷◌, length, Option, None, Some, option_map, refl, sym, ap, subst, ◌∙◌, inl, inr, arith}
+use Rattle.std.proofs.Common.{◌≡◌, ◌≤◌, ◌+◌, ℕ, false, List, [], ◌∷◌, length, Option, None, Some, refl, sym, subst, ◌∙◌, arith}
 use Rattle.std.specs.Prelude.{⊤, slice_get, MatchOption}
 use Rattle.svr_limits.specs.declared.limit.TheConstants.{LOOP_LIMIT}
 use Rattle.svr_tree.specs.ExprTree.{ExprTree}
@@ -8,7 +8,7 @@ use Rattle.svr_typed.specs.declared.Prop.{Prop}
 use Rattle.svr_typed.specs.declared.TVar.{TVar}
 use Rattle.svr_typed.specs.ExprTerm.{ExprTerm}
 use Rattle.svr_eval.specs.Typed.{IsTyped}
-use Rattle.svr_design.specs.Mentions.{is_random, can_of, cyclic_of, is_cyclic_one}
+use Rattle.svr_design.specs.Mentions.{is_random, can_of, cyclic_of}
 use Rattle.svr_design.specs.Constraints.{Stands}
 use Rattle.svr_elab_fault.specs.declared.Fault.{Fault}
 use Rattle.svr_elab_fault.specs.Refusals.{first_one}
@@ -17,7 +17,7 @@ use Rattle.svr_elab_names.specs.declared.Property.{Property}
 use Rattle.svr_elab_names.specs.Names.{Space, PropName, Loop, in_loop}
 use Rattle.svr_elab_part.specs.declared.part.Shape.{Shape}
 use Rattle.svr_elab_part.specs.declared.part.Reads.{Reads}
-use Rattle.svr_elab_part.specs.Fits.{Each, PropertyFits, NamesFit, LiteralsFit}
+use Rattle.svr_elab_part.specs.Fits.{Each, PropertyFits, LiteralsFit}
 use Rattle.svr_elab_part.specs.Elab as expr
 use Rattle.svr_elab_part.specs.Elab.{Elab}
 use Rattle.svr_elab_part.specs.Shapes.{is_randc}
@@ -26,13 +26,13 @@ use Rattle.svr_elab_part.proofs.Looked.{OptionIs}
 use Rattle.svr_elab_expr_laws.proofs.Ready.{accepted_is_typed}
 use Rattle.svr_elab_reads_laws.specs.Reads.{IsDeclared, ItemDeclared, InConstraint, Mentions}
 use Rattle.svr_elab_reads_laws.proofs.Three.{accepted_mentions}
-use Rattle.svr_elab_stand_laws.specs.Stand.{There, IsDesigned, ItemDesigned, InDesign}
+use Rattle.svr_elab_stand_laws.specs.Stand.{There, IsDesigned}
 use Rattle.svr_elab_stand_laws.proofs.Found.{ItemIs, PlaceIs}
 use Rattle.svr_elab_stand_laws.proofs.Whole.{accepted_stands}
 use Rattle.svr_elab_item.specs.Items.{in_body}
 use Rattle.svr_elab_item_laws.specs.Lawful.{SameThere, IsPlace, IsNamed}
 use Rattle.svr_elab_item_laws.proofs.Roots.{Rooted}
-use Rattle.svr_elab_item_laws.proofs.Rooting.{any_variable, rooted, rooted_sole}
+use Rattle.svr_elab_item_laws.proofs.Rooting.{any_variable, rooted_sole}
 use Rattle.svr_elab_item_laws.proofs.Trees.{each_as, any_vars, no_item}
 
 one_deeper : {A : Type 0} (x : A) (xs : List A) (d : ℕ) → length xs ≡ d → length (x ∷ xs) ≡ d + 1

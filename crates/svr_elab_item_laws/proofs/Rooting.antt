@@ -1,30 +1,27 @@
 -- Each expression of a constraint has such a root.
-use Rattle.std.proofs.Common.{◌≡◌, ℕ, Bool, true, false, not, if◌then◌else◌, List, [], ◌∷◌, length, Option, None, Some, option_map, refl, sym, ap, subst, ◌∙◌}
+use Rattle.std.proofs.Common.{◌≡◌, ℕ, Bool, true, false, if◌then◌else◌, Option, None, Some, option_map, refl, sym, subst, ◌∙◌}
 use Rattle.std.specs.Prelude.{⊤}
-use Rattle.svr_operator.specs.declared.Fold.{Fold}
 use Rattle.svr_refusal.specs.declared.Refusal.TheVariants as refusal
 use Rattle.svr_tree.specs.ExprTree as raw
 use Rattle.svr_tree.specs.ExprTree.{ExprTree, argument_name}
 use Rattle.svr_typed.specs.ExprTerm as term
-use Rattle.svr_typed.specs.ExprTerm.{ExprTerm, NodeTerm, typed}
+use Rattle.svr_typed.specs.ExprTerm.{ExprTerm}
 use Rattle.svr_elab_fault.specs.declared.Fault.{Fault}
-use Rattle.svr_elab_fault.specs.Refusals.{first_one, when, earlier}
+use Rattle.svr_elab_fault.specs.Refusals.{first_one, when}
 use Rattle.svr_elab_names.specs.declared.Vector.{Vector}
 use Rattle.svr_elab_names.specs.declared.Property.{Property}
 use Rattle.svr_elab_names.specs.declared.Meaning.{Meaning}
 use Rattle.svr_elab_names.specs.declared.Meaning.TheVariants.{Wrong, LoopOf, ItemOf, MemberOf, PropertyOf, SizeOf, FoldOf, VariableOf, ObjectOf}
 use Rattle.svr_elab_names.specs.Names.{Space, look, is_array}
-use Rattle.svr_elab_part.specs.declared.part.Extent.TheVariants as extent
-use Rattle.svr_elab_part.specs.declared.part.Root.TheVariants as root
 use Rattle.svr_elab_part.specs.Elab as spec
 use Rattle.svr_elab_part.specs.Elab.{Elab, Elabs, RangesElab, body_space}
 use Rattle.svr_elab_part.specs.Shapes as shapes
 use Rattle.svr_elab_part.specs.Shapes.{both_known, all_known, array_property, inner_of}
-use Rattle.svr_elab_part.specs.Forms.{is_row, is_whole, is_object, element_extent}
+use Rattle.svr_elab_part.specs.Forms.{is_row, is_whole, element_extent}
 use Rattle.svr_elab_part.proofs.Valued.{none_left, none_right, not_when}
 use Rattle.svr_elab_part.proofs.Looked.{OptionIs}
 use Rattle.svr_elab_stand_laws.proofs.Found.{MeaningIs, PlaceIs, found}
-use Rattle.svr_elab_item_laws.proofs.Roots.{true_false, false_true, mapped_is, both_is, all_is, no_row_single, no_row_whole, no_row_row, property_whole, property_no_row, refused_without, Rooted, Settled, Plain, Bits, TreeRooted, made, plain_rooted, bits_rooted, index_settled, still_settled, element_rooted, cell_rooted, prop_rooted, item_rooted, member_rooted, variable_rooted, size_rooted, fold_rooted, array_rooted, root_without, whole_without, tree_without}
+use Rattle.svr_elab_item_laws.proofs.Roots.{true_false, false_true, mapped_is, both_is, all_is, no_row_single, no_row_whole, no_row_row, property_whole, property_no_row, refused_without, Rooted, Plain, Bits, made, plain_rooted, bits_rooted, index_settled, still_settled, element_rooted, cell_rooted, prop_rooted, item_rooted, member_rooted, variable_rooted, size_rooted, fold_rooted, array_rooted, root_without, whole_without, tree_without}
 
 -- nothing is asked of variables
 abbrev pub any_variable : ℕ → Option Vector → Type 0

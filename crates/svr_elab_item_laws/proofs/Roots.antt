@@ -1,5 +1,5 @@
 -- What stands at the root of an expression of a constraint: a whole array, an element with its indexes, bits, or none of these.
-use Rattle.std.proofs.Common.{◌≡◌, ℕ, Bool, true, false, not, if◌then◌else◌, Option, None, Some, option_map, refl, sym, ap, subst, ◌∙◌}
+use Rattle.std.proofs.Common.{◌≡◌, ℕ, Bool, true, false, if◌then◌else◌, Option, None, Some, option_map, refl, sym, ap, subst, ◌∙◌}
 use Rattle.std.specs.Prelude.{⊤}
 use Rattle.svr_operator.specs.declared.Fold.{Fold}
 use Rattle.svr_typed.specs.ExprTerm as term

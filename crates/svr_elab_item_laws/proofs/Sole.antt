@@ -1,6 +1,5 @@
 -- What may be an array: it is a value, or a whole array that is declared.
-use Rattle.std.proofs.Common.{◌≡◌, ℕ, Bool, true, false, not, ◌&&◌, Option, None, Some, refl, sym, ap, subst, ◌∙◌}
-use Rattle.std.specs.Prelude.{⊤}
+use Rattle.std.proofs.Common.{◌≡◌, ℕ, Bool, true, false, not, ◌&&◌, Option, None, refl, ap, ◌∙◌}
 use Rattle.svr_refusal.specs.declared.Refusal.{Refusal}
 use Rattle.svr_refusal.specs.declared.Refusal.TheVariants as refusal
 use Rattle.svr_typed.specs.ExprTerm.{ExprTerm}
@@ -13,7 +12,7 @@ use Rattle.svr_elab_part.specs.Elab as spec
 use Rattle.svr_elab_part.specs.Elab.{Elab, is_no_array}
 use Rattle.svr_elab_part.specs.Forms.{is_single, is_row, is_whole, is_object, is_refused}
 use Rattle.svr_elab_part.proofs.Valued.{none_left, none_right, not_when}
-use Rattle.svr_elab_item_laws.proofs.Roots.{true_false, false_true, Rooted, WholeIs}
+use Rattle.svr_elab_item_laws.proofs.Roots.{true_false, Rooted, WholeIs}
 
 pub not_not : (b : Bool) → not b ≡ false → b ≡ true
 not_not true h = refl

@@ -1,6 +1,6 @@
 -- Each form of a constraint item stands where its parts do.
-use Rattle.std.proofs.Common.{◌≡◌, ◌≤◌, ◌<◌, ◌+◌, ℕ, Bool, true, false, not, ◌&&◌, ◌||◌, List, [], ◌∷◌, ◌++◌, Option, None, Some, option_map, refl, sym, ap, subst, ◌∙◌, inl, inr, arith}
-use Rattle.std.specs.Prelude.{⊤, ◌⊎◌, ◌==◌, nat_eq, if◌then◌else◌, slice_get}
+use Rattle.std.proofs.Common.{◌≡◌, ◌≤◌, ◌+◌, ℕ, Bool, true, false, not, ◌&&◌, ◌||◌, List, [], ◌∷◌, ◌++◌, Option, None, Some, option_map, refl, sym, ap, subst, ◌∙◌, inl, inr, arith}
+use Rattle.std.specs.Prelude.{⊤, ◌⊎◌, ◌==◌, if◌then◌else◌, slice_get}
 use Rattle.std.proofs.lemmas.Bool.Decides.{nat_tests}
 use Rattle.svr_operator.specs.declared.Rand.{Rand}
 use Rattle.svr_operator.specs.declared.Rand.TheVariants as rand
@@ -36,7 +36,7 @@ use Rattle.svr_elab_stand_laws.specs.Stand.{There}
 use Rattle.svr_elab_item.specs.Items as spec
 use Rattle.svr_elab_item.specs.Items.{array_of, has_rows, same_shape, is_cyclic_root}
 use Rattle.svr_elab_item_laws.specs.Lawful.{SameThere}
-use Rattle.svr_elab_item_laws.proofs.Roots.{true_false, false_true, RootIs, WholeIs}
+use Rattle.svr_elab_item_laws.proofs.Roots.{false_true, RootIs, WholeIs}
 use Rattle.svr_elab_item_laws.proofs.Sole.{not_not}
 use Rattle.svr_elab_item_laws.proofs.Places.{Here, Fixed, declared, Valued}
 use Rattle.svr_elab_item_laws.proofs.Members.{Member, Target}

@@ -1,5 +1,5 @@
 -- Items in which nothing is refused have typed items.
-use Rattle.std.proofs.Common.{◌≡◌, ℕ, Bool, true, false, not, List, [], ◌∷◌, ◌++◌, ◌+◌, length, Option, None, Some, option_map, refl, sym, ap, subst, ◌∙◌}
+use Rattle.std.proofs.Common.{◌≡◌, ℕ, true, List, [], ◌∷◌, ◌++◌, ◌+◌, length, Option, None, Some, option_map, refl, sym, subst}
 use Rattle.std.specs.Prelude.{⊤}
 use Rattle.svr_operator.specs.declared.Share.{Share}
 use Rattle.svr_refusal.specs.declared.Refusal.{Refusal}
@@ -9,11 +9,11 @@ use Rattle.svr_tree.specs.ExprTree.{ExprTree, ExprTrees, RangeTree, BoundTree}
 use Rattle.svr_tree.specs.ItemTree as tree
 use Rattle.svr_tree.specs.ItemTree.{DistItemTree, ItemTree, ItemTrees, SetTree, ElseTree}
 use Rattle.svr_typed.specs.ExprTerm as term
-use Rattle.svr_typed.specs.ExprTerm.{ExprTerm, NodeTerm, typed}
+use Rattle.svr_typed.specs.ExprTerm.{ExprTerm, NodeTerm}
 use Rattle.svr_typed.specs.ItemTerm as item_term
 use Rattle.svr_typed.specs.ItemTerm.{ItemTerm}
 use Rattle.svr_elab_fault.specs.declared.Fault.{Fault}
-use Rattle.svr_elab_fault.specs.Refusals.{first_one, when, earlier}
+use Rattle.svr_elab_fault.specs.Refusals.{first_one, when}
 use Rattle.svr_elab_names.specs.declared.Vector.{Vector}
 use Rattle.svr_elab_names.specs.declared.Dims.{Dims}
 use Rattle.svr_elab_names.specs.declared.Dims.TheVariants as dims
@@ -33,13 +33,13 @@ use Rattle.svr_elab_part.specs.Elab.{Elab, RangeElab}
 use Rattle.svr_elab_part.specs.Shapes.{both_known, all_known, and_more, inner_of, property_tree}
 use Rattle.svr_elab_part.proofs.Valued.{none_left, none_right, not_when}
 use Rattle.svr_elab_part.proofs.Looked.{OptionIs}
-use Rattle.svr_elab_expr_laws.specs.Known.{IsKnown, DimsKnown, PropertyKnown, NamesKnown}
+use Rattle.svr_elab_expr_laws.specs.Known.{IsKnown, DimsKnown, PropertyKnown}
 use Rattle.svr_elab_expr_laws.proofs.HasTree.{accepted_has_tree}
 use Rattle.svr_elab_stand_laws.proofs.Found.{MeaningIs, ItemIs, VarIs, VarsAre, PlaceIs, found}
 use Rattle.svr_elab_item.specs.declared.Around.{Around}
 use Rattle.svr_elab_item.specs.Items as spec
-use Rattle.svr_elab_item.specs.Items.{ItemElab, ItemsElab, ElseElab, DistElab, UniqueElab, SolveElab, array_of, in_body, under, over}
-use Rattle.svr_elab_item_laws.specs.Lawful.{OnlyLoops, IsNamed, AcceptedItemsHaveTrees}
+use Rattle.svr_elab_item.specs.Items.{ItemsElab, ElseElab, DistElab, UniqueElab, SolveElab, array_of, in_body, under, over}
+use Rattle.svr_elab_item_laws.specs.Lawful.{IsNamed, AcceptedItemsHaveTrees}
 use Rattle.svr_elab_item_laws.proofs.Roots.{true_false, false_true, Rooted, RootIs, WholeIs}
 use Rattle.svr_elab_item_laws.proofs.Rooting.{any_variable, rooted_sole, rooted}
 use Rattle.svr_elab_item_laws.proofs.Sole.{by_extent, as_value, no_row, whole_of}

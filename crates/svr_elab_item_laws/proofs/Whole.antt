@@ -1,6 +1,6 @@
 -- What is accepted among constraint items is lawful.
-use Rattle.std.proofs.Common.{◌≡◌, ◌≤◌, ◌+◌, ◌*◌, ℕ, max, Bool, true, false, not, ◌&&◌, ◌||◌, List, [], ◌∷◌, length, Option, None, Some, option_map, refl, sym, ap, subst, ◌∙◌, inl, inr, arith}
-use Rattle.std.specs.Prelude.{⊤, nat_lt, is_some, slice_get}
+use Rattle.std.proofs.Common.{◌≡◌, ◌≤◌, ◌+◌, ◌*◌, ℕ, max, Bool, true, false, not, ◌&&◌, ◌||◌, List, [], ◌∷◌, length, Option, None, Some, refl, ap, ◌∙◌, inl, inr, arith}
+use Rattle.std.specs.Prelude.{⊤, nat_lt}
 use Rattle.svr_limits.specs.declared.limit.TheConstants.{LOOP_LIMIT, HEIGHT_LIMIT}
 use Rattle.svr_refusal.specs.declared.Refusal.{Refusal}
 use Rattle.svr_refusal.specs.declared.Refusal.TheVariants as refusal
@@ -12,11 +12,8 @@ use Rattle.svr_tree.specs.ItemTree.{ItemTree, ItemTrees, SetTree, ElseTree}
 use Rattle.svr_tree.specs.ItemGrammar.{AreLoopVars, IsItem, AreItems, IsSet, IsElse, IsBlockItem, AreBlockItems, dist_items_height, item_height, items_height, set_height, else_height}
 use Rattle.svr_typed.specs.declared.Prop.{Prop}
 use Rattle.svr_typed.specs.declared.TVar.{TVar}
-use Rattle.svr_typed.specs.ExprTerm.{ExprTerm}
-use Rattle.svr_typed.specs.ItemTerm.{ItemTerm, items_of}
 use Rattle.svr_elab_fault.specs.declared.Fault.{Fault}
-use Rattle.svr_elab_fault.specs.Refusals.{first_one, when, earlier}
-use Rattle.svr_elab_names.specs.declared.Property.{Property}
+use Rattle.svr_elab_fault.specs.Refusals.{first_one, when}
 use Rattle.svr_elab_names.specs.declared.Meaning.{Meaning}
 use Rattle.svr_elab_names.specs.declared.Meaning.TheVariants.{Wrong, LoopOf, ItemOf, MemberOf, PropertyOf, SizeOf, FoldOf, VariableOf, ObjectOf}
 use Rattle.svr_elab_names.specs.Names.{Space, look, is_array, or_else, only_if}

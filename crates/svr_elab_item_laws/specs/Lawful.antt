@@ -1,5 +1,5 @@
 -- What is accepted among constraint items is lawful: it is typed, and stands in the constraints of a design (IEEE 1800-2017, 18.5).
-use Rattle.std.specs.Prelude.{◌≡◌, ◌≤◌, ◌⊎◌, ℕ, Bool, true, false, List, length, Option, Some, None, is_some, ⊤, slice_get}
+use Rattle.std.specs.Prelude.{◌≡◌, ◌≤◌, ℕ, true, false, List, Option, Some, None, slice_get}
 use Rattle.svr_limits.specs.declared.limit.TheConstants.{HEIGHT_LIMIT}
 use Rattle.svr_typed.specs.declared.Prop.{Prop}
 use Rattle.svr_typed.specs.declared.TVar.{TVar}

@@ -1,0 +1,9 @@
+pub mod Constants
+pub mod Declared
+pub mod There
+pub mod Lawful
+pub mod Places
+pub mod Reads
+pub mod Together
+pub mod Walks
+pub mod Accepted
