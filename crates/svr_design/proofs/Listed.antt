@@ -166,6 +166,7 @@ class_is = record {
   can = (refl, (refl, (refl, (refl, (refl, tt)))));
   few = omega arith;
   few_arrays = omega arith;
+  few_blocks = omega arith;
   differ = (refl, (refl, (refl, (refl, (refl, tt)))));
 }
 

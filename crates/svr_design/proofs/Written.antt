@@ -130,6 +130,7 @@ base_is n = record {
   can = (refl, (refl, (refl, tt)));
   few = omega arith;
   few_arrays = omega arith;
+  few_blocks = omega arith;
   differ = (refl, (refl, (refl, tt)));
 }
 
@@ -162,6 +163,7 @@ packet_is n = record {
   can = (refl, (refl, (refl, (refl, (refl, tt)))));
   few = omega arith;
   few_arrays = omega arith;
+  few_blocks = omega arith;
   differ = (refl, (refl, (refl, (refl, (refl, tt)))));
 }
 

@@ -1,5 +1,5 @@
 -- What holds of every design that elaboration gives, so that whoever reads a design may take it for granted.
-use Rattle.std.specs.Prelude.{◌≡◌, ◌≤◌, ◌<◌, ◌+◌, ◌==◌, ◌&&◌, ◌||◌, ℕ, Bool, true, false, List, [], ◌∷◌, ◌++◌, length, map, replicate, Option, Some, None, ⊤, is_some, slice_get, slice_index_or, if◌then◌else◌}
+use Rattle.std.specs.Prelude.{◌≡◌, ◌≤◌, ◌<◌, ◌+◌, ◌^◌, ◌==◌, ◌&&◌, ◌||◌, ℕ, Bool, true, false, List, [], ◌∷◌, ◌++◌, length, map, replicate, Option, Some, None, ⊤, is_some, slice_get, slice_index_or, if◌then◌else◌}
 use Rattle.std.specs.List.{list_any}
 use Rattle.svr_operator.specs.declared.Rand.{Rand}
 use Rattle.svr_operator.specs.declared.Rand.TheVariants as rand
@@ -98,6 +98,7 @@ pub record IsClass (d : DesignTerm) (k : ℕ) (c : ClassTerm) : Type 0 where
   pub can : EachFrom (CanBeRandom d k) 0 (flat_class_of d.classes k).props
   pub few : length (flat_class_of d.classes k).props ≤ PROPERTY_LIMIT
   pub few_arrays : arrays_in (flat_class_of d.classes k).props ≤ 32
+  pub few_blocks : length (flat_class_of d.classes k).blocks < 2 ^ 32
   pub differ : NamesDiffer (map (λ (p : Prop). p.name) (flat_class_of d.classes k).props)
 
 -- ---- variables

@@ -21,4 +21,4 @@ accepted_is_lawful text s is low fits f =
     two (λ d. BlocksNamed d (names_of text s)) (λ d. BlocksNamed d (names_of text s) → SetsStand d (names_of text s) → AllStmtsStand d d.stmts) (λ d. SetsStand d (names_of text s) → AllStmtsStand d d.stmts)
     (λ d b k. k b) o (blocks_are_named text s is f) (statements_stand text s is (units_are_read s is low fits) f) in
     two (λ d. BlocksStand d → AllStmtsStand d d.stmts → IsLawful d) (λ d. SetsStand d (names_of text s) → AllStmtsStand d d.stmts) (λ d. BlocksStand d → SetsStand d (names_of text s) → IsLawful d)
-    (λ d k w blocks sets. k blocks (w sets)) o (lawful_but_for_walks text s is f) walks
+    (λ d k w blocks sets. k blocks (w sets)) o (lawful_but_for_walks text s is fits.few_blocks f) walks

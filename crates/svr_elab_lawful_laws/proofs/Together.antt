@@ -1,5 +1,5 @@
 -- The conditions of a lawful design, put together.
-use Rattle.std.proofs.Common.{◌≡◌, ℕ, suc, ◌+◌, ◌≤◌, List, [], ◌∷◌, length, map, Option, None, Some, refl, sym, ap, ◌∙◌, arith}
+use Rattle.std.proofs.Common.{◌≡◌, ℕ, suc, ◌+◌, ◌≤◌, ◌<◌, ◌^◌, List, [], ◌∷◌, length, map, Option, None, Some, refl, sym, ap, ◌∙◌, arith}
 use Rattle.std.specs.Prelude.{⊤, MatchOption}
 use Rattle.svr_typed.specs.declared.EnumType.{EnumType}
 use Rattle.svr_typed.specs.declared.TVar.{TVar}
@@ -10,12 +10,14 @@ use Rattle.svr_design.specs.Types.{IsEnum}
 use Rattle.svr_design.specs.Statements.{AllStmtsStand, AllFollow, all_run}
 use Rattle.svr_design.specs.Lawful.{Every, EachFrom, BlockStands, CanBeRandom, IsClass, VariableStands, objects_in, IsLawful}
 use Rattle.svr_elab_names.specs.Names.{ClassName}
+use Rattle.svr_elab_fit_laws.specs.ReadScripts.{blocks_in}
 use Rattle.svr_elab.specs.Script.{design_in}
 use Rattle.svr_elab_lawful_laws.specs.Lawful.{ClassStands}
 use Rattle.svr_elab_lawful_laws.specs.Together.{BlocksStand, LawfulButForWalks, BlocksAreThose}
 use Rattle.svr_elab_lawful_laws.proofs.Flats.{TermsAre}
 use Rattle.svr_elab_lawful_laws.proofs.Whole.{the_heads, the_space, the_bodies, IsClear, script_clear, of_design, enums_are_lawful}
 use Rattle.svr_elab_lawful_laws.proofs.Declarations.{DesignClasses, design_classes, all_blocks_counted, classes_are_lawful, variables_are_lawful, variables_are_few}
+use Rattle.svr_elab_lawful_laws.proofs.Blocks.{blocks_are_few}
 use Rattle.svr_elab_lawful_laws.proofs.Counts.{statements_are_few}
 use Rattle.svr_elab_lawful_laws.proofs.Can.{random_is_lawful}
 use Rattle.svr_elab_lawful_laws.proofs.Follow.{objects_are_made}
@@ -37,12 +39,15 @@ module _ (d : DesignTerm) where
   abbrev OwnStand : ℕ → ClassTerm → Type 0
   OwnStand k c = Every (BlockStands (flat_class_of d.classes k).props) c.blocks
 
-  class_is : (k : ℕ) (c : ClassTerm) → ClassStands d k c → RandomStands k c → OwnStand k c → IsClass d k c
-  class_is k c h r b = record { base = h.base; props = h.props; blocks = b; can = r; few = h.few; few_arrays = h.few_arrays; differ = h.differ }
+  abbrev HasFewBlocks : ℕ → Type 0
+  HasFewBlocks k = length (flat_class_of d.classes k).blocks < 2 ^ 32
 
-  classes_are : (k : ℕ) (cs : List ClassTerm) → EachFrom (ClassStands d) k cs → EachFrom RandomStands k cs → EachFrom OwnStand k cs → EachFrom (IsClass d) k cs
-  classes_are k [] h r b = tt
-  classes_are k (c ∷ cs) h r b = (class_is k c h.0 r.0 b.0, classes_are (k + 1) cs h.1 r.1 b.1)
+  class_is : (k : ℕ) (c : ClassTerm) → HasFewBlocks k → ClassStands d k c → RandomStands k c → OwnStand k c → IsClass d k c
+  class_is k c few h r b = record { base = h.base; props = h.props; blocks = b; can = r; few = h.few; few_arrays = h.few_arrays; few_blocks = few; differ = h.differ }
+
+  classes_are : ((k : ℕ) → HasFewBlocks k) → (k : ℕ) (cs : List ClassTerm) → EachFrom (ClassStands d) k cs → EachFrom RandomStands k cs → EachFrom OwnStand k cs → EachFrom (IsClass d) k cs
+  classes_are few k [] h r b = tt
+  classes_are few k (c ∷ cs) h r b = (class_is k c (few k) h.0 r.0 b.0, classes_are few (k + 1) cs h.1 r.1 b.1)
 
 -- ---- the whole
 
@@ -67,11 +72,17 @@ AreMade d = AllFollow [] d.stmts
 abbrev FewStatements : DesignTerm → Type 0
 FewStatements d = all_run d.stmts ≤ 100000
 
+abbrev FewBlocks : DesignTerm → Type 0
+FewBlocks d = (k : ℕ) → HasFewBlocks d k
+
 abbrev Declared : DesignTerm → Type 0
 Declared d = Enums d × (Classes d × Random d)
 
+abbrev CountedVariables : DesignTerm → Type 0
+CountedVariables d = Variables d × FewVariables d
+
 abbrev Counted : DesignTerm → Type 0
-Counted d = Variables d × FewVariables d
+Counted d = CountedVariables d × FewBlocks d
 
 abbrev Walked : DesignTerm → Type 0
 Walked d = AreMade d × FewStatements d
@@ -82,20 +93,25 @@ All d = Declared d × (Counted d × Walked d)
 lawful : (d : DesignTerm) → All d → BlocksStand d → AllStmtsStand d d.stmts → IsLawful d
 lawful d h b s = record {
   enums = h.0.0;
-  classes = classes_are d 0 d.classes h.0.1.0 h.0.1.1 b;
-  vars = h.1.0.0;
+  classes = classes_are d h.1.0.1 0 d.classes h.0.1.0 h.0.1.1 b;
+  vars = h.1.0.0.0;
   stmts = s;
   made = h.1.1.0;
-  few_objects = h.1.0.1.0;
-  few_others = h.1.0.1.1;
+  few_objects = h.1.0.0.1.0;
+  few_others = h.1.0.0.1.1;
   few_stmts = h.1.1.1;
 }
 
+within : (d : DesignTerm) (n : ℕ) → n < 2 ^ 32 → ((k : ℕ) → length (flat_class_of d.classes k).blocks ≤ n) → FewBlocks d
+within d n h few k = let g : length (flat_class_of d.classes k).blocks ≤ n = few k in omega (arith, h, g)
+
 pub lawful_but_for_walks : LawfulButForWalks
-lawful_but_for_walks text s is f =
+lawful_but_for_walks text s is few f =
     let o : Option DesignTerm = design_in text s in
     let declared : MatchOption o ⊤ Declared = both Enums (λ d. Classes d × Random d) o (enums_are_lawful text s is f) (both Classes Random o (classes_are_lawful text s is f) (random_is_lawful text s is f)) in
-    let counted : MatchOption o ⊤ Counted = both Variables FewVariables o (variables_are_lawful text s is f) (variables_are_few text s is f) in
+    let blocks : MatchOption o ⊤ FewBlocks = through (λ d. (k : ℕ) → length (flat_class_of d.classes k).blocks ≤ blocks_in s.classes) FewBlocks (λ d h. within d (blocks_in s.classes) few h) o (blocks_are_few text s is f) in
+    let variables : MatchOption o ⊤ CountedVariables = both Variables FewVariables o (variables_are_lawful text s is f) (variables_are_few text s is f) in
+    let counted : MatchOption o ⊤ Counted = both CountedVariables FewBlocks o variables blocks in
     let walked : MatchOption o ⊤ Walked = both AreMade FewStatements o (objects_are_made text s is f) (statements_are_few text s is f) in
     through All (λ d. BlocksStand d → AllStmtsStand d d.stmts → IsLawful d) lawful o (both Declared (λ d. Counted d × Walked d) o declared (both Counted Walked o counted walked))
 

@@ -67,7 +67,7 @@ pub fn accepted_reads()
     ensures places { StatementPlacesStand }
 {}
 
-/// The design of a script in which nothing is refused is lawful, where its constraint blocks and its statements stand; and its blocks are those that elaboration gives.
+/// The design of a script in which nothing is refused is lawful, where its constraint blocks and its statements stand and there are fewer than 2^32 blocks; and its blocks are those that elaboration gives.
 pub fn lawful_but_for_walks()
     ensures lawful { LawfulButForWalks }
     ensures blocks { BlocksAreThose }

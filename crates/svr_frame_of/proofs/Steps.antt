@@ -1,5 +1,5 @@
 -- One more turn of the loops over an object's properties, blocks and items.
-use Rattle.std.proofs.Common.{◌≡◌, ◌==◌, ◌<◌, ◌≤◌, ℕ, zero, suc, ◌+◌, min, add-one, Bool, true, false, ◌&&◌, ◌||◌, refl, sym, ◌∙◌, ap, subst, List, [], ◌∷◌, ◌++◌, length, get_or, drop, drop-cons, append_assoc, arith}
+use Rattle.std.proofs.Common.{◌≡◌, ◌==◌, ◌<◌, ◌≤◌, ℕ, zero, suc, ◌+◌, ◌^◌, min, add-one, Bool, true, false, ◌&&◌, ◌||◌, refl, sym, ◌∙◌, ap, subst, List, [], ◌∷◌, ◌++◌, length, get_or, drop, drop-cons, append_assoc, arith}
 use Rattle.std.specs.Prelude.{if◌then◌else◌, nat_lt, nat_le, slice_index_or}
 use Rattle.std.proofs.lemmas.Bool.{ltb-true, ltb-false, ne_eqb}
 use Rattle.std.proofs.lemmas.List.{length-map, get_or_past}
@@ -93,8 +93,8 @@ quiet_at_place active i b all modes own less is off =
 pub active_end : (active new own : List TItem) (all : ItemTerms) → followed_by (item_terms active) (item_terms own) ≡ all → new ≡ active ++ own → item_terms new ≡ all
 active_end active new own all h k = ap item_terms k ∙ followed_all active own ∙ h
 
-pub few_blocks : (n : ℕ) (bs : List TBlock) → length (block_terms bs) ≤ n → length bs ≤ n
-few_blocks n bs h = subst (λ (k : ℕ). k ≤ n) (length-map bs block_term) h
+pub few_blocks : (bs : List TBlock) → length (block_terms bs) < 2 ^ 32 → length bs < 2 ^ 32
+few_blocks bs h = subst (λ (k : ℕ). k < 2 ^ 32) (length-map bs block_term) h
 
 -- ---- leaves
 

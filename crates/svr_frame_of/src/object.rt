@@ -1,11 +1,11 @@
 // What a call takes of its object: the state, the random set, and the active items (IEEE 1800-2017, 18.7 to 18.9 and 18.11).
 
-ghost use Rattle.std.specs.Prelude.{◌≡◌, ◌==◌, ◌||◌, ℕ, ◌≤◌, ◌++◌, false, nat_eq, IfOk, OnOk, map, length};
+ghost use Rattle.std.specs.Prelude.{◌≡◌, ◌==◌, ◌||◌, ℕ, ◌≤◌, ◌<◌, ◌^◌, ◌++◌, false, nat_eq, IfOk, OnOk, map, length};
 ghost use Rattle.std.specs.List.{list_any, range_with_len, All};
 ghost use Rattle.std.specs.HashSet.{contains};
 ghost use Rattle.svr_typed.specs.ItemTerm.{item_terms};
 ghost use Rattle.svr_typed.specs.ClassTerm.{block_terms};
-ghost use Rattle.svr_limits.specs.declared.limit.TheConstants.{PROPERTY_LIMIT, TEXT_LIMIT};
+ghost use Rattle.svr_limits.specs.declared.limit.TheConstants.{PROPERTY_LIMIT};
 ghost use Rattle.svr_world.specs.World.{object_of};
 ghost use Rattle.svr_world.specs.Fits.{IsShort};
 ghost use Rattle.svr_frame.specs.Making as spec;
@@ -168,7 +168,7 @@ pub(crate) fn active_items(
     world: &World,
     object: u32,
 ) -> Result<Items<TItem>, NoMemory>
-    requires { length blocks.now ≤ TEXT_LIMIT }
+    requires { length blocks.now < 2 ^ 32 }
     ensures { IfOk result (λ items. item_terms items ≡ spec.active_items (block_terms blocks.now) (object_of world.now object).block_modes (item_terms in_line.now)) }
 {
     let mut active = Items::new(alloc);

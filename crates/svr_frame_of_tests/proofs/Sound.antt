@@ -49,7 +49,7 @@ sample_is_callable : IsCallable sample_class [] (object_of sample_world 0) sampl
 sample_is_callable = record {
   properties = lit≤ tt;
   arrays = lit≤ tt;
-  few_blocks = lit≤ tt;
+  few_blocks = lit< tt;
   types = All-nil IsEnum;
   props = All-cons (IsProp []) sample_prop [] queue_is (All-nil (IsProp []));
   declared = All-cons CanIfDeclared sample_prop [] (λ h. refl) (All-nil CanIfDeclared);
