@@ -1,0 +1,187 @@
+-- What is written behind one another, or up to a fault, and what is counted.
+use Rattle.std.proofs.Common.{◌≡◌, ◌≤◌, ◌+◌, ◌⊎◌, inl, inr, ℕ, cond, refl, sym, ◌∙◌, ap, subst, List, [], ◌∷◌, ◌++◌, length, take, append-nil, append_assoc, arith, Bool, true, false, Option, Result, Ok, Err, OnOk, OnErr, IfErr, IsErrAnd}
+use Rattle.std.specs.Io.KnownBytes.{Appends}
+use Rattle.std.specs.List.{count_by}
+use Rattle.std.proofs.KnownBytes.{Appends-nil, Appends-trans}
+use Rattle.std.proofs.Math.Seq.{take-append-add}
+use Rattle.std.proofs.lemmas.List.{take_all}
+use Rattle.std.proofs.lemmas.List.Sums.{sum_by_push}
+use Rattle.svr_edge.specs.Known.{AppendsFront}
+use Rattle.svr_edge.specs.Causes.{Rose}
+use Rattle.svr_typed.specs.StmtTerm.{CallTerm, DesignTerm}
+use Rattle.svr_world.specs.World.{object_of}
+use Rattle.svr_frame.specs.Frame.{FrameTerm}
+use Rattle.svr_call.specs.declared.outcome.Outcome.{Outcome}
+use Rattle.svr_call.specs.Items.{is_one}
+use Rattle.svr_script.specs.Printed.{Event, line_of}
+use Rattle.svr_script.specs.ProofText.{certificates_of}
+use Rattle.svr_script.specs.Statement.{name_of_var, class_of_var}
+use Rattle.svr_script.specs.Run.{Printing, text_of, journal_of, event_text, event_log, is_zero, is_given_up}
+use Rattle.svr_script.proofs.Runs.{text_joined, journal_joined}
+use Rattle.svr_run.specs.declared.progress.Counts.{Counts}
+use Rattle.svr_run.specs.declared.stop.Stop.{Stop}
+use Rattle.svr_run.specs.declared.stop.Stop.TheVariants.{NoMemory, WriteFault}
+use Rattle.svr_run.specs.declared.progress.Progress.{Progress}
+use Rattle.svr_run.specs.Events.{IsCause, event_in}
+use Rattle.svr_run.specs.Telling.{Sinks, Tells, TellsFront, SinkFailed, HasCounts, counted}
+
+-- ---- fronts
+
+pub front_of_none : (a : Option (List ℕ)) (text : List ℕ) → AppendsFront a a text
+front_of_none a text = (0, Appends-nil a)
+
+pub front_of_all : (a b : Option (List ℕ)) (text : List ℕ) → Appends a b text → AppendsFront a b text
+front_of_all a b text h = (length text, subst (λ (t : List ℕ). Appends a b t) (sym (take_all (length text) text (omega arith))) h)
+
+front_behind : (a b c : Option (List ℕ)) (xs ys : List ℕ) → Appends a b xs → AppendsFront b c ys → AppendsFront a c (xs ++ ys)
+front_behind a b c xs ys h (n, k) = (length xs + n, subst (λ (t : List ℕ). Appends a c t) (sym (take-append-add xs ys n)) (Appends-trans a b c xs (take n ys) h k))
+
+-- ---- what is told
+
+pub tells_nothing : (how : Printing) (now : Sinks) → Tells how [] now now
+tells_nothing how now = record { printed = Appends-nil now.out; logged = Appends-nil now.journal; out_kept = refl; journal_kept = refl }
+
+pub tells_join : (how : Printing) (es fs : List Event) (a b c : Sinks) → Tells how es a b → Tells how fs b c → Tells how (es ++ fs) a c
+tells_join how es fs a b c h k = record {
+  printed = subst (λ (t : List ℕ). Appends a.out c.out t) (sym (text_joined how es fs)) (Appends-trans a.out b.out c.out (text_of how es) (text_of how fs) h.printed k.printed);
+  logged = subst (λ (t : List ℕ). Appends a.journal c.journal t) (sym (journal_joined es fs)) (Appends-trans a.journal b.journal c.journal (journal_of es) (journal_of fs) h.logged k.logged);
+  out_kept = k.out_kept ∙ h.out_kept;
+  journal_kept = k.journal_kept ∙ h.journal_kept;
+}
+
+pub front_join : (how : Printing) (es fs : List Event) (a b c : Sinks) → Tells how es a b → TellsFront how fs b c → TellsFront how (es ++ fs) a c
+front_join how es fs a b c h k = record {
+  printed = subst (λ (t : List ℕ). AppendsFront a.out c.out t) (sym (text_joined how es fs)) (front_behind a.out b.out c.out (text_of how es) (text_of how fs) h.printed k.printed);
+  logged = subst (λ (t : List ℕ). AppendsFront a.journal c.journal t) (sym (journal_joined es fs)) (front_behind a.journal b.journal c.journal (journal_of es) (journal_of fs) h.logged k.logged);
+  out_later = subst (λ (n : ℕ). n ≤ c.out_faults) h.out_kept k.out_later;
+  journal_later = subst (λ (n : ℕ). n ≤ c.journal_faults) h.journal_kept k.journal_later;
+}
+
+no_less : (m n : ℕ) → n ≡ m → m ≤ n
+no_less m n e = omega arith
+
+-- all of it is a front
+pub front_of_told : (how : Printing) (es : List Event) (a b : Sinks) → Tells how es a b → TellsFront how es a b
+front_of_told how es a b h = record {
+  printed = front_of_all a.out b.out (text_of how es) h.printed;
+  logged = front_of_all a.journal b.journal (journal_of es) h.logged;
+  out_later = no_less a.out_faults b.out_faults h.out_kept;
+  journal_later = no_less a.journal_faults b.journal_faults h.journal_kept;
+}
+
+-- what failed behind a front of the run failed in the run
+pub failed_since : (how : Printing) (es : List Event) (a b c : Sinks) → Tells how es a b → SinkFailed b c → SinkFailed a c
+failed_since how es a b c h (inl rose) = inl (subst (λ (n : ℕ). Rose n c.out_faults) h.out_kept rose)
+failed_since how es a b c h (inr rose) = inr (subst (λ (n : ℕ). Rose n c.journal_faults) h.journal_kept rose)
+
+-- ---- one call
+
+text_of_one : (how : Printing) (e : Event) → text_of how (e ∷ []) ≡ event_text how e
+text_of_one how e = append-nil (event_text how e)
+
+journal_of_one : (e : Event) → journal_of (e ∷ []) ≡ event_log e
+journal_of_one e = append-nil (event_log e)
+
+pub one_told : (how : Printing) (e : Event) (text log : List ℕ) (a b : Sinks) → text ≡ event_text how e → log ≡ event_log e
+    → Appends a.out b.out text → Appends a.journal b.journal log → b.out_faults ≡ a.out_faults → b.journal_faults ≡ a.journal_faults → Tells how (e ∷ []) a b
+one_told how e text log a b is_text is_log printed logged out_kept journal_kept = record {
+  printed = subst (λ (t : List ℕ). Appends a.out b.out t) (is_text ∙ sym (text_of_one how e)) printed;
+  logged = subst (λ (t : List ℕ). Appends a.journal b.journal t) (is_log ∙ sym (journal_of_one e)) logged;
+  out_kept = out_kept;
+  journal_kept = journal_kept;
+}
+
+pub one_front : (how : Printing) (e : Event) (text log : List ℕ) (a b : Sinks) → text ≡ event_text how e → log ≡ event_log e
+    → AppendsFront a.out b.out text → AppendsFront a.journal b.journal log → a.out_faults ≤ b.out_faults → a.journal_faults ≤ b.journal_faults → TellsFront how (e ∷ []) a b
+one_front how e text log a b is_text is_log printed logged out_later journal_later = record {
+  printed = subst (λ (t : List ℕ). AppendsFront a.out b.out t) (is_text ∙ sym (text_of_one how e)) printed;
+  logged = subst (λ (t : List ℕ). AppendsFront a.journal b.journal t) (is_log ∙ sym (journal_of_one e)) logged;
+  out_later = out_later;
+  journal_later = journal_later;
+}
+
+-- the same call
+pub told_as : (how : Printing) (e f : Event) (a b : Sinks) → e ≡ f → Tells how (e ∷ []) a b → Tells how (f ∷ []) a b
+told_as how e f a b same h = subst (λ (x : Event). Tells how (x ∷ []) a b) same h
+
+pub front_as : (how : Printing) (e f : Event) (a b : Sinks) → e ≡ f → TellsFront how (e ∷ []) a b → TellsFront how (f ∷ []) a b
+front_as how e f a b same h = subst (λ (x : Event). TellsFront how (x ∷ []) a b) same h
+
+-- before it nothing was written
+pub none_front : (how : Printing) (es : List Event) (a : Sinks) → TellsFront how es a a
+none_front how es a = record {
+  printed = front_of_none a.out (text_of how es);
+  logged = front_of_none a.journal (journal_of es);
+  out_later = no_less a.out_faults a.out_faults refl;
+  journal_later = no_less a.journal_faults a.journal_faults refl;
+}
+
+-- ---- what is counted
+
+pub one_counted : (n : Counts) (es : List Event) (e : Event) → HasCounts n es → HasCounts (counted n e.outcome) (es ++ e ∷ [])
+one_counted n es e h = record {
+  ones = ap (λ (k : ℕ). k + cond (is_one e.outcome) 1 0) h.ones ∙ sym (sum_by_push (λ (x : Event). cond (is_one x.outcome) 1 0) es e);
+  zeros = ap (λ (k : ℕ). k + cond (is_zero e.outcome) 1 0) h.zeros ∙ sym (sum_by_push (λ (x : Event). cond (is_zero x.outcome) 1 0) es e);
+  given_up = ap (λ (k : ℕ). k + cond (is_given_up e.outcome) 1 0) h.given_up ∙ sym (sum_by_push (λ (x : Event). cond (is_given_up x.outcome) 1 0) es e);
+}
+
+-- ---- texts of one call
+
+pub printed_with : (how : Printing) (e : Event) (line text : List ℕ) → how.proofs ≡ true → line ≡ line_of e → text ≡ line ++ certificates_of e.frame e.outcome → text ≡ event_text how e
+printed_with how e line text with_proofs is_line is_text =
+    is_text
+    ∙ ap (λ (t : List ℕ). t ++ certificates_of e.frame e.outcome) is_line
+    ∙ ap (λ (b : Bool). line_of e ++ cond b (certificates_of e.frame e.outcome) []) (sym with_proofs)
+
+pub printed_without : (how : Printing) (e : Event) (line : List ℕ) → how.proofs ≡ false → line ≡ line_of e → line ≡ event_text how e
+printed_without how e line without is_line =
+    is_line ∙ sym (append-nil (line_of e)) ∙ ap (λ (b : Bool). line_of e ++ cond b (certificates_of e.frame e.outcome) []) (sym without)
+
+-- ---- what a result says
+
+pub all_ok : {T E : Type 0} (r : Result T E) (A B C D Q : Type 0) → OnOk r A → OnOk r B → OnOk r C → OnOk r D → (A → B → C → D → Q) → OnOk r Q
+all_ok (Ok x) A B C D Q a b c d f = f a b c d
+all_ok (Err e) A B C D Q a b c d f = tt
+
+pub both_failed : {T E : Type 0} (r : Result T E) (A B Q : Type 0) → OnErr r A → OnErr r B → (A → B → Q) → OnErr r Q
+both_failed (Ok x) A B Q a b f = tt
+both_failed (Err e) A B Q a b f = f a b
+
+pub failed_with : {T E : Type 0} (r : Result T E) (Q : Type 0) → Q → OnErr r Q
+failed_with (Ok x) Q q = tt
+failed_with (Err e) Q q = q
+
+pub failed_for : {T E : Type 0} (r : Result T E) (Q : E → Type 0) → ((e : E) → Q e) → IfErr r Q
+failed_for (Ok x) Q f = tt
+failed_for (Err e) Q f = f e
+
+pub failed_so : {T E : Type 0} (r : Result T E) (A : Type 0) (P Q : E → Type 0) → OnErr r A → IfErr r P → ((e : E) → A → P e → Q e) → IfErr r Q
+failed_so (Ok x) A P Q a p f = tt
+failed_so (Err e) A P Q a p f = f e a p
+
+pub not_ok : {T E : Type 0} (r : Result T E) (P : E → Type 0) (Q : Type 0) → IsErrAnd r P → OnOk r Q
+not_ok (Ok x) P Q h = absurd h
+not_ok (Err e) P Q h = tt
+
+pub failed_as : {T E : Type 0} (r : Result T E) (P Q : E → Type 0) → IsErrAnd r P → ((e : E) → P e → Q e) → IfErr r Q
+failed_as (Ok x) P Q h f = absurd h
+failed_as (Err e) P Q h f = f e h
+
+pub memory_is_cause : (why : Stop) (a b : Sinks) → why ≡ NoMemory → IsCause why a b
+memory_is_cause why a b e = subst (λ (w : Stop). IsCause w a b) (sym e) tt
+
+pub fault_is_cause : (why : Stop) (a b : Sinks) → SinkFailed a b → why ≡ WriteFault → IsCause why a b
+fault_is_cause why a b failed e = subst (λ (w : Stop). IsCause w a b) (sym e) failed
+
+pub same_cause : (why cause : Stop) (a b : Sinks) → why ≡ cause → IsCause cause a b → IsCause why a b
+same_cause why cause a b e h = subst (λ (w : Stop). IsCause w a b) (sym e) h
+
+-- ---- the event of a call
+
+abbrev pub named : DesignTerm → Progress → CallTerm → FrameTerm → Outcome → List ℕ → List (List ℕ) → Event
+named d p c f o object numbers = record { number = p.calls + 1; object = object; class = class_of_var d c.object; frame = f; outcome = o; after = numbers }
+
+pub event_is : (d : DesignTerm) (p : Progress) (c : CallTerm) (f : FrameTerm) (o : Outcome) (object : List ℕ) (numbers : List (List ℕ)) → object ≡ name_of_var d c.object → numbers ≡ (object_of p.world c.object).values
+    → named d p c f o object numbers ≡ event_in d p c f o
+event_is d p c f o object numbers is_object is_numbers =
+    ap (λ (x : List ℕ). named d p c f o x numbers) is_object ∙ ap (λ (y : List (List ℕ)). named d p c f o (name_of_var d c.object) y) is_numbers

@@ -1,0 +1,22 @@
+-- How a run of a script ends, and what it has written.
+use Rattle.std.specs.Prelude.{◌≡◌, false, true, cond, List}
+use Rattle.svr_typed.specs.StmtTerm.{DesignTerm}
+use Rattle.svr_phase.specs.declared.options.Options.{Options}
+use Rattle.svr_script.specs.Printed.{Event}
+use Rattle.svr_script.specs.Run.{State, IsRun}
+use Rattle.svr_run.specs.declared.progress.Progress.{Progress}
+use Rattle.svr_run.specs.declared.run.End.{End}
+use Rattle.svr_run.specs.declared.run.End.TheVariants.{Ended, Limit, Stopped}
+use Rattle.svr_run.specs.Telling.{Sinks, Tells, HasCounts, printing_of}
+use Rattle.svr_run.specs.Reached.{Stops}
+
+-- A run came to its end, with so many answers; its last call met a limit; or it stopped before. From the old sinks to the new ones all of it was written, or where it stopped, a front.
+abbrev pub Ends : DesignTerm → Options → End → Sinks → Sinks → Type 0
+Ends d opts (Ended n) old new =
+    (es : List Event) × (t : State) × IsRun d opts es t × (t.limited ≡ false) × HasCounts n es × Tells (printing_of opts) es old new
+Ends d opts Limit old new = (es : List Event) × (t : State) × IsRun d opts es t × (t.limited ≡ true) × Tells (printing_of opts) es old new
+Ends d opts (Stopped why) old new = Stops d opts old why new
+
+-- of a run that has no more statements to execute
+abbrev pub end_of : Progress → End
+end_of p = cond p.limited Limit (Ended p.counts)

@@ -1,0 +1,136 @@
+// Calls of `randomize` (IEEE 1800-2017, 18.6).
+
+ghost use Rattle.std.specs.Prelude.{◌≡◌, ◌+◌, ◌<◌, ◌≤◌, ◌^◌, ◌∷◌, [], false, OnOk, OnErr, IfErr};
+ghost use Rattle.svr_typed.specs.StmtTerm as term;
+ghost use Rattle.svr_typed.specs.StmtTerm.{call_term, design_term};
+ghost use Rattle.svr_effect.specs.Inherited.{AreClasses};
+ghost use Rattle.svr_frame.specs.Frame.{frame_term};
+ghost use Rattle.svr_frame.specs.Sound.{IsSound};
+ghost use Rattle.svr_call.specs.Items.{is_one};
+ghost use Rattle.svr_script.specs.Statement.{frame_in};
+ghost use Rattle.svr_script.specs.Run as spec;
+ghost use Rattle.svr_run.specs.CanRun.{AreAllowed, CanRun};
+ghost use Rattle.svr_run.specs.Telling.{Tells, TellsFront, counted, printing_of, sinks};
+ghost use Rattle.svr_run.specs.Events.{IsCause, event_in};
+ghost use Rattle.svr_run.specs.Reached.{Breaks, Goes, Halts, IsBefore, IsNext, Steps, state_of};
+
+use crate::progress::{Progress, is_limit, take_answer};
+use crate::script::{Script, name_of_var};
+use crate::stop::Stop;
+use crate::tell::{Told, tell};
+use std::alloc::Global;
+use svr_call::Outcome;
+use svr_edge::Sink;
+use svr_effect::class_of_var;
+use svr_frame::Frame;
+use svr_frame_of::make_frame;
+use svr_hard::is_hard;
+use svr_randomize::randomize;
+use svr_typed::CallStmt;
+
+/// What was answered is told, counted, and handed to the variable that takes it.
+fn settle<K: Sink, J: Sink>(
+    alloc: Global,
+    script: &Script<'_>,
+    progress: &mut Progress,
+    call: &CallStmt,
+    frame: &Frame,
+    outcome: &Outcome,
+    out: &mut K,
+    journal: &mut J,
+) -> Result<(), Stop>
+    requires few { progress.old.calls + 1 < 2 ^ 64 }
+    requires counts { progress.old.counts.ones + progress.old.counts.zeros + progress.old.counts.given_up ≤ progress.old.calls }
+    ensures state { OnOk result (state_of progress.new ≡ record { world = spec.with_answer call.now.result (is_one outcome.now) progress.old.world; calls = progress.old.calls + 1; limited = spec.is_limit outcome.now }) }
+    ensures counts { OnOk result (progress.new.counts ≡ counted progress.old.counts outcome.now) }
+    ensures told { OnOk result (Tells (printing_of script.now.opts) (event_in (design_term script.now.design.now) progress.old (call_term call.now) (frame_term frame.now) outcome.now ∷ [])
+        (sinks (K.written out.old) (K.faults out.old) (J.written journal.old) (J.faults journal.old))
+        (sinks (K.written out.new) (K.faults out.new) (J.written journal.new) (J.faults journal.new))) }
+    ensures front { OnErr result (TellsFront (printing_of script.now.opts) (event_in (design_term script.now.design.now) progress.old (call_term call.now) (frame_term frame.now) outcome.now ∷ [])
+        (sinks (K.written out.old) (K.faults out.old) (J.written journal.old) (J.faults journal.old))
+        (sinks (K.written out.new) (K.faults out.new) (J.written journal.new) (J.faults journal.new))) }
+    ensures cause { IfErr result (λ why. IsCause why
+        (sinks (K.written out.old) (K.faults out.old) (J.written journal.old) (J.faults journal.old))
+        (sinks (K.written out.new) (K.faults out.new) (J.written journal.new) (J.faults journal.new))) }
+{
+    let told = Told {
+        number: progress.calls + 1,
+        object: name_of_var(script.design, call.object),
+        frame,
+        outcome,
+        after: progress.world.values(call.object),
+    };
+    tell(alloc, script.opts, &told, out, journal)?;
+    progress.calls += 1;
+    progress.limited = is_limit(outcome);
+    progress.counts = progress.counts.plus(outcome);
+    take_answer(&mut progress.world, call.result, outcome);
+    Ok(())
+}
+
+/// The answer of a call in its frame, if that asks hard items alone.
+fn answer<K: Sink, J: Sink>(
+    alloc: Global,
+    script: &Script<'_>,
+    progress: &mut Progress,
+    call: &CallStmt,
+    frame: &Frame,
+    out: &mut K,
+    journal: &mut J,
+) -> Result<(), Stop>
+    requires allowed { AreAllowed script.now.opts }
+    requires can_run { CanRun (design_term script.now.design.now) script.now.opts }
+    requires going { progress.old.limited ≡ false }
+    requires next { IsNext (design_term script.now.design.now) script.now.opts (term.call (call_term call.now)) progress.old
+        (sinks (K.written out.old) (K.faults out.old) (J.written journal.old) (J.faults journal.old)) }
+    requires framed { frame_term frame.now ≡ frame_in (design_term script.now.design.now) progress.old.world (call_term call.now) }
+    requires sound { IsSound (frame_term frame.now) }
+    ensures steps { OnOk result (Steps (design_term script.now.design.now) script.now.opts (term.call (call_term call.now)) progress.old
+        (sinks (K.written out.old) (K.faults out.old) (J.written journal.old) (J.faults journal.old)) progress.new
+        (sinks (K.written out.new) (K.faults out.new) (J.written journal.new) (J.faults journal.new))) }
+    ensures halts { IfErr result (λ why. Halts (design_term script.now.design.now) script.now.opts (term.call (call_term call.now)) progress.old
+        (sinks (K.written out.old) (K.faults out.old) (J.written journal.old) (J.faults journal.old)) why
+        (sinks (K.written out.new) (K.faults out.new) (J.written journal.new) (J.faults journal.new))) }
+{
+    if !is_hard(frame) {
+        return Err(Stop::NotHard);
+    }
+    let number = progress.calls + 1;
+    let outcome = randomize(
+        alloc,
+        &mut progress.world,
+        call.object,
+        frame,
+        number,
+        script.opts,
+    )?;
+    settle(alloc, script, progress, call, frame, &outcome, out, journal)
+}
+
+/// Executes a call: it answers, and what it tells is written.
+pub(crate) fn execute_call<K: Sink, J: Sink>(
+    alloc: Global,
+    script: &Script<'_>,
+    progress: &mut Progress,
+    call: &CallStmt,
+    out: &mut K,
+    journal: &mut J,
+) -> Result<(), Stop>
+    requires classes { AreClasses (design_term script.now.design.now) script.now.classes.now }
+    requires allowed { AreAllowed script.now.opts }
+    requires can_run { CanRun (design_term script.now.design.now) script.now.opts }
+    requires going { progress.old.limited ≡ false }
+    requires before { IsBefore (design_term script.now.design.now) script.now.opts (term.call (call_term call.now) ∷ []) progress.old
+        (sinks (K.written out.old) (K.faults out.old) (J.written journal.old) (J.faults journal.old)) }
+    ensures goes { OnOk result (Goes (design_term script.now.design.now) script.now.opts (term.call (call_term call.now) ∷ []) progress.old
+        (sinks (K.written out.old) (K.faults out.old) (J.written journal.old) (J.faults journal.old)) progress.new
+        (sinks (K.written out.new) (K.faults out.new) (J.written journal.new) (J.faults journal.new))) }
+    ensures breaks { IfErr result (λ why. Breaks (design_term script.now.design.now) script.now.opts (term.call (call_term call.now) ∷ []) progress.old
+        (sinks (K.written out.old) (K.faults out.old) (J.written journal.old) (J.faults journal.old)) why
+        (sinks (K.written out.new) (K.faults out.new) (J.written journal.new) (J.faults journal.new))) }
+{
+    let class = class_of_var(script.design, call.object);
+    let flat = script.classes.get(script.design, class);
+    let frame = make_frame(alloc, script.design, flat, &progress.world, call)?;
+    answer(alloc, script, progress, call, &frame, out, journal)
+}

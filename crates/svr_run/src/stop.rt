@@ -1,0 +1,53 @@
+// Why a run stops before its end.
+
+/// Why a run stops before its end: an allocation was refused, a sink failed, or the next call asks more than hard items.
+#[derive(Clone, Copy, Debug, PartialEq, Eq)]
+pub enum Stop {
+    NoMemory,
+    WriteFault,
+    NotHard,
+}
+
+impl From<svr_typed::NoMemory> for Stop {
+    ghost use Rattle.std.specs.Prelude.{◌≡◌};
+    ghost use Rattle.svr_run.specs.declared.stop.Stop.TheVariants.{NoMemory};
+
+    ghost from_gives = { λ _ e. e ≡ NoMemory };
+
+    fn from(_error: svr_typed::NoMemory) -> Stop {
+        Stop::NoMemory
+    }
+}
+
+impl From<svr_randomize::NoMemory> for Stop {
+    ghost use Rattle.std.specs.Prelude.{◌≡◌};
+    ghost use Rattle.svr_run.specs.declared.stop.Stop.TheVariants.{NoMemory};
+
+    ghost from_gives = { λ _ e. e ≡ NoMemory };
+
+    fn from(_error: svr_randomize::NoMemory) -> Stop {
+        Stop::NoMemory
+    }
+}
+
+impl From<svr_printed::NoMemory> for Stop {
+    ghost use Rattle.std.specs.Prelude.{◌≡◌};
+    ghost use Rattle.svr_run.specs.declared.stop.Stop.TheVariants.{NoMemory};
+
+    ghost from_gives = { λ _ e. e ≡ NoMemory };
+
+    fn from(_error: svr_printed::NoMemory) -> Stop {
+        Stop::NoMemory
+    }
+}
+
+impl From<svr_edge::Failed> for Stop {
+    ghost use Rattle.std.specs.Prelude.{◌≡◌};
+    ghost use Rattle.svr_run.specs.declared.stop.Stop.TheVariants.{WriteFault};
+
+    ghost from_gives = { λ _ e. e ≡ WriteFault };
+
+    fn from(_error: svr_edge::Failed) -> Stop {
+        Stop::WriteFault
+    }
+}
