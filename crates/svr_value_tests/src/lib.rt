@@ -6,8 +6,6 @@
 #[cfg(test)]
 mod numbers;
 #[cfg(test)]
-mod trials;
-#[cfg(test)]
 mod typed_trees;
 #[cfg(test)]
 mod values;

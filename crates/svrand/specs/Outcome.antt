@@ -1,88 +1,99 @@
 -- What the program answers and writes, by its words and the text that it reads.
-use Rattle.std.specs.Prelude.{◌≡◌, ◌≤◌, ◌<◌, ◌+◌, ◌^◌, ◌⊎◌, ℕ, List, [], ◌∷◌, length, codes, ⊤}
+use Rattle.std.specs.Prelude.{◌≡◌, ◌≤◌, ◌<◌, ◌+◌, ◌⊎◌, ℕ, List, [], length, codes, ⊤}
 use Rattle.std.specs.declared.option.Option.{Option}
-use Rattle.std.specs.Str.Parse.{digits_value}
 use Rattle.std.specs.Io.KnownBytes.{Appends, Keeps, IsAtEnd}
 use Rattle.svr_edge.specs.Known.{Takes, AppendsFront}
-use Rattle.svrand.specs.Digits.{AreDigits}
 use Rattle.svr_limits.specs.declared.limit.TheConstants.{TEXT_LIMIT}
 use Rattle.svr_refusal.specs.declared.refusal.Refusal.TheVariants as refusal
-use Rattle.svrand.specs.Answer.{IsOne, IsZero, IsRefused, refused_at, nowhere}
+use Rattle.svr_phase.specs.declared.options.Options.{Options}
+use Rattle.svr_script.specs.Ending as ending
+use Rattle.svr_script.specs.Ending.{Output}
+use Rattle.svr_run.specs.Telling.{Sinks}
+use Rattle.svrand.specs.Words.{IsCommand}
+use Rattle.svrand.specs.Lines.{refused_at, nowhere}
+use Rattle.svrand.specs.Answer.{IsRefused, Ends, Begins, StopsUnanswered}
 use Rattle.svrand.specs.declared.status.Status.{Status}
-use Rattle.svrand.specs.declared.status.Status.TheVariants.{AllOne, SomeZero, Usage, Refused, ReadFault, WriteFault, NoMemory}
-
--- the words ask for a run with this seed
-abbrev pub IsCommand : List (List ℕ) → ℕ → Type 0
-IsCommand [] seed = ⊥
-IsCommand (w ∷ []) seed = (w ≡ codes "run") × (seed ≡ 0)
-IsCommand (w ∷ o ∷ []) seed = ⊥
-IsCommand (w ∷ o ∷ n ∷ []) seed = (w ≡ codes "run") × (o ≡ codes "--seed") × AreDigits n × (seed ≡ digits_value 10 n) × (seed < 2 ^ 64)
-IsCommand (w ∷ o ∷ n ∷ m ∷ ws) seed = ⊥
+use Rattle.svrand.specs.declared.status.Status.TheVariants.{AllOne, SomeZero, Usage, SomeGivenUp, Refused, Limited, ReadFault, WriteFault, NoMemory}
 
 abbrev pub usage_text : List ℕ
 usage_text = codes "usage: svrand run [--seed N] [--budget N] [--size-cap N] [--proofs]\n       svrand load N [--seed N] [--budget N] [--size-cap N] [--proofs]\n"
-
--- what a run has to write: the printed text, and the logs of the questions that were given up
-pub record Output : Type 0 where
-  pub printed : List ℕ
-  pub journal : List ℕ
 
 -- nothing was given up
 abbrev pub prints : List ℕ → Output
 prints bytes = record { printed = bytes; journal = [] }
 
--- a run with this seed over this text ends with this status and has this to write
-abbrev pub Answers : ℕ → List ℕ → Status → Output → Type 0
-Answers seed text AllOne output = (length text ≤ TEXT_LIMIT) × (bytes : List ℕ) × IsOne seed text bytes × (output ≡ prints bytes)
-Answers seed text SomeZero output = (length text ≤ TEXT_LIMIT) × (bytes : List ℕ) × IsZero text bytes × (output ≡ prints bytes)
-Answers seed text Refused output =
-    ((TEXT_LIMIT < length text) × (output ≡ prints (refused_at nowhere refusal.TooLong)))
-    ⊎ ((length text ≤ TEXT_LIMIT) × (bytes : List ℕ) × IsRefused text bytes × (output ≡ prints bytes))
-Answers seed text Usage output = ⊥
-Answers seed text ReadFault output = ⊥
-Answers seed text WriteFault output = ⊥
-Answers seed text NoMemory output = ⊥
+-- ---- what is said
+
+-- the text is too long, or is refused; or a call of its script is not answered yet
+pub data Refuses (opts : Options) (text : List ℕ) (output : Output) : Type 0 where
+  too_long : TEXT_LIMIT < length text → output ≡ prints (refused_at nowhere refusal.TooLong) → Refuses opts text output
+  refused : (line : List ℕ) → length text ≤ TEXT_LIMIT → IsRefused text line → output ≡ prints line → Refuses opts text output
+  not_answered : length text ≤ TEXT_LIMIT → StopsUnanswered opts text output → Refuses opts text output
+
+-- a run with these options over this text ends with this status and has this to write
+abbrev pub Answers : Options → List ℕ → Status → Output → Type 0
+Answers opts text AllOne output = (length text ≤ TEXT_LIMIT) × Ends opts text ending.AllOne output
+Answers opts text SomeZero output = (length text ≤ TEXT_LIMIT) × Ends opts text ending.SomeZero output
+Answers opts text SomeGivenUp output = (length text ≤ TEXT_LIMIT) × Ends opts text ending.SomeGivenUp output
+Answers opts text Limited output = (length text ≤ TEXT_LIMIT) × Ends opts text ending.Limited output
+Answers opts text Refused output = Refuses opts text output
+Answers opts text Usage output = ⊥
+Answers opts text ReadFault output = ⊥
+Answers opts text WriteFault output = ⊥
+Answers opts text NoMemory output = ⊥
+
+-- it may be cut off once it has told this: an answer, or what a run so far tells, which owes no end
+abbrev pub MayTell : Options → List ℕ → Output → Type 0
+MayTell opts text output = ((status : Status) × Answers opts text status output) ⊎ ((length text ≤ TEXT_LIMIT) × Begins opts text output)
 
 -- the program with these words over this text ends with this status and has this to write
 abbrev pub Says : List (List ℕ) → List ℕ → Status → Output → Type 0
 Says words text status output =
-    ((status ≡ Usage) × ((seed : ℕ) → IsCommand words seed → ⊥) × (output ≡ prints usage_text))
-    ⊎ ((seed : ℕ) × IsCommand words seed × Answers seed text status output)
+    ((status ≡ Usage) × ((opts : Options) → IsCommand words opts → ⊥) × (output ≡ prints usage_text))
+    ⊎ ((opts : Options) × IsCommand words opts × Answers opts text status output)
 
--- What the two sinks tell of the bytes that they have.
-pub record Sinks : Type 0 where
-  pub out : Option (List ℕ)
-  pub journal : Option (List ℕ)
+abbrev pub MaySay : List (List ℕ) → List ℕ → Output → Type 0
+MaySay words text output =
+    (((opts : Options) → IsCommand words opts → ⊥) × (output ≡ prints usage_text))
+    ⊎ ((opts : Options) × IsCommand words opts × MayTell opts text output)
 
--- all that the program says with this status was written
-abbrev pub WritesAll : List (List ℕ) → List ℕ → Status → Sinks → Sinks → Type 0
-WritesAll words text status old new =
-    (output : Output) × Says words text status output × Appends old.out new.out output.printed × Appends old.journal new.journal output.journal
+-- ---- what is written
 
--- a front of what the program says was written to each sink
-abbrev pub WritesFront : List (List ℕ) → List ℕ → Sinks → Sinks → Type 0
-WritesFront words text old new =
-    (status : Status) × (output : Output) × Says words text status output
-    × AppendsFront old.out new.out output.printed × AppendsFront old.journal new.journal output.journal
+-- all of what is said was written
+abbrev pub WritesAll : (Output → Type 0) → Sinks → Sinks → Type 0
+WritesAll Said old new = (output : Output) × Said output × Appends old.out new.out output.printed × Appends old.journal new.journal output.journal
+
+-- a front of what may be said was written to each sink
+abbrev pub WritesFront : (Output → Type 0) → Sinks → Sinks → Type 0
+WritesFront Said old new = (output : Output) × Said output × AppendsFront old.out new.out output.printed × AppendsFront old.journal new.journal output.journal
 
 -- nothing was written
 abbrev pub WritesNothing : Sinks → Sinks → Type 0
 WritesNothing old new = Keeps old.out new.out × Keeps old.journal new.journal
 
--- What was written: all that the program says, or with a fault a front of it.
+-- what was written, by the status: all that is said with it, or with a fault a front of what may be said
+abbrev pub Writing : (Status → Output → Type 0) → (Output → Type 0) → Status → Sinks → Sinks → Type 0
+Writing Said May AllOne old new = WritesAll (Said AllOne) old new
+Writing Said May SomeZero old new = WritesAll (Said SomeZero) old new
+Writing Said May Usage old new = WritesAll (Said Usage) old new
+Writing Said May SomeGivenUp old new = WritesAll (Said SomeGivenUp) old new
+Writing Said May Refused old new = WritesAll (Said Refused) old new
+Writing Said May Limited old new = WritesAll (Said Limited) old new
+Writing Said May ReadFault old new = WritesNothing old new
+Writing Said May WriteFault old new = WritesFront May old new
+Writing Said May NoMemory old new = WritesNothing old new ⊎ WritesFront May old new
+
 abbrev pub Writes : List (List ℕ) → List ℕ → Status → Sinks → Sinks → Type 0
-Writes words text AllOne old new = WritesAll words text AllOne old new
-Writes words text SomeZero old new = WritesAll words text SomeZero old new
-Writes words text Usage old new = WritesAll words text Usage old new
-Writes words text Refused old new = WritesAll words text Refused old new
-Writes words text ReadFault old new = WritesNothing old new
-Writes words text WriteFault old new = WritesFront words text old new
-Writes words text NoMemory old new = WritesNothing old new ⊎ WritesFront words text old new
+Writes words text status old new = Writing (Says words text) (MaySay words text) status old new
+
+-- ---- how far the text was read
 
 -- How far a source was read: to its end, or one byte past the limit.
 abbrev pub HasRead : Status → Option (List ℕ) → Option (List ℕ) → Type 0
 HasRead AllOne old new = IsAtEnd new
 HasRead SomeZero old new = IsAtEnd new
+HasRead SomeGivenUp old new = IsAtEnd new
+HasRead Limited old new = IsAtEnd new
 HasRead Refused old new = IsAtEnd new ⊎ Takes old new (TEXT_LIMIT + 1)
 HasRead Usage old new = Keeps old new
 HasRead ReadFault old new = ⊤
@@ -98,3 +109,23 @@ HasReadText text status old new = HasRead status old new
 -- what words that are no command end with
 abbrev pub EndsUnread : Status → Type 0
 EndsUnread status = (status ≡ Usage) ⊎ ((status ≡ WriteFault) ⊎ (status ≡ NoMemory))
+
+-- ---- which answers a script has
+
+-- The words ask for a run, nothing refuses the text, and no run of its script meets a limit or a call that is not answered yet.
+pub record IsAnswerable (words : List (List ℕ)) (text : List ℕ) : Type 0 where
+  pub opts : Options
+  pub asked : IsCommand words opts
+  pub small : length text ≤ TEXT_LIMIT
+  pub accepted : (line : List ℕ) → IsRefused text line → ⊥
+  pub answered : (output : Output) → StopsUnanswered opts text output → ⊥
+  pub unlimited : (output : Output) → Ends opts text ending.Limited output → ⊥
+
+-- each call was answered or given up, or memory was wanting
+abbrev pub IsAnswered : Status → Type 0
+IsAnswered status = (status ≡ AllOne) ⊎ ((status ≡ SomeZero) ⊎ ((status ≡ SomeGivenUp) ⊎ (status ≡ NoMemory)))
+
+-- where no source or sink failed, such a script is answered
+abbrev pub RunsAreComplete : Type 0
+RunsAreComplete = (words : List (List ℕ)) (text : List ℕ) (status : Status) (old new : Sinks) → IsAnswerable words text → Writes words text status old new
+    → (status ≡ ReadFault → ⊥) → (status ≡ WriteFault → ⊥) → IsAnswered status

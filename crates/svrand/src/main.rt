@@ -1,13 +1,14 @@
 //! `svrand`, a constrained random value generator for SystemVerilog (IEEE 1800-2017, clause 18).
 //!
-//! It reads a script of classes and `randomize()` calls from its standard input and prints one line for each call.
+//! It reads a script of classes and `randomize()` calls from its standard input and prints one line for each call, when it is answered.
 //! All that it does is `run`, whose contract says what is written, and with which status it ends, by the words and the text alone.
 #![tactic(auto)]
 
 mod answer;
 mod command;
-mod digits;
-mod draw;
+mod design;
+mod finish;
+mod laws;
 mod line;
 mod refusal;
 mod run;

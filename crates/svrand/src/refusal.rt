@@ -1,25 +1,19 @@
-// Why a script is refused.
-ghost use Rattle.std.specs.Prelude.{◌≡◌, ◌≤◌, ◌<◌, ◌^◌, length, [], IfOk, IfSome, IfNone};
+// Why a text is no script.
+ghost use Rattle.std.specs.Prelude.{◌≡◌, ◌≤◌, length, IfOk};
 ghost use Rattle.svr_token.specs.Tokens.{IsTokenized};
-ghost use Rattle.svr_token.specs.Names.{name_at};
-ghost use Rattle.svr_tree.specs.ScriptTree.{script_tree};
-ghost use Rattle.svr_elab.specs.Script.{faults_of};
 ghost use Rattle.svr_lex.specs.Lexing.{IsLexicalFaultOf};
-ghost use Rattle.svr_parse.specs.Parse.{IsFaultOf, IsTreeOf};
+ghost use Rattle.svr_parse.specs.Parse.{IsFaultOf};
 ghost use Rattle.svr_refusal.specs.Place as place;
 ghost use Rattle.svr_limits.specs.declared.limit.TheConstants.{TEXT_LIMIT};
 ghost use Rattle.svrand.specs.Answer.{IsRefused};
-ghost use Rattle.svrand.specs.Answer as spec;
+ghost use Rattle.svrand.specs.Lines as spec;
 
-use crate::line::{refused_as, refused_at};
+use crate::line::refused_at;
 use std::alloc::{AllocError, Global};
-use svr_elab::elab_script;
-use svr_elab_fault::ElabFault;
 use svr_lex::LexFault;
 use svr_parse::ParseError;
 use svr_refusal::{Refusal, place_of, token_start};
 use svr_token::Token;
-use svr_tree::Script;
 
 /// A refusal at the byte of this number.
 fn at_byte(alloc: Global, text: &[u8], at: usize, why: Refusal) -> Result<Vec<u8>, AllocError>
@@ -77,29 +71,5 @@ pub fn syntactic(
             Refusal::TooDeep,
         ),
         ParseError::NoMemory => Err(AllocError),
-    }
-}
-
-/// The first refusal of a script that was read, none where nothing in it is refused.
-pub fn semantic(
-    alloc: Global,
-    text: &[u8],
-    tokens: &[Token],
-    script: &Script,
-) -> Result<Option<Vec<u8>>, AllocError>
-    requires small { length text.now ≤ TEXT_LIMIT }
-    requires few { length tokens.now < 2 ^ 32 }
-    requires tokens { IsTokenized text.now tokens.now }
-    requires tree { IsTreeOf text.now tokens.now (script_tree script.now) }
-    ensures some { IfOk result (λ r. IfSome r (λ v. IsRefused text.now v.items)) }
-    ensures none { IfOk result (λ r. IfNone r (faults_of (name_at text.now tokens.now) (script_tree script.now) ≡ [])) }
-{
-    match elab_script(alloc, text, tokens, script).err() {
-        None => Ok(None),
-        Some(ElabFault::Refused { number, token }) => {
-            let place = place_of(text, token_start(text, tokens, token));
-            Ok(Some(refused_as(alloc, place, number)?))
-        }
-        Some(ElabFault::NoMemory) => Err(AllocError),
     }
 }

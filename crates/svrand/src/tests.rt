@@ -1,132 +1,62 @@
-use crate::draw::generator;
 use crate::run::run;
 use crate::status::Status;
-use rand_core::utils::NextWord;
 use std::alloc::Global;
 use std::test::Fail;
-use svr_edge::{MemSink, MemSource, NullSink};
+use svr_edge::{MemSink, MemSource};
 
-const SCRIPT: &[u8] =
-    b"class P;\nrand bit [3:0] a; constraint c { a == 5; }\nendclass\nmodule m;\ninitial begin\nP p = new;\np.randomize();\nend\nendmodule\n";
-
-// Thirteen bits.
-const TOO_WIDE: &[u8] =
-    b"class P;\nrand bit [12:0] a; constraint c { a == 5; }\nendclass\nmodule m;\ninitial begin\nP p = new;\np.randomize();\nend\nendmodule\n";
-
-// No value of one bit is 2.
-const NO_VALUE: &[u8] =
-    b"class P; rand bit a; constraint c{a==2;}endclass module m;initial begin P p=new;p.randomize();end endmodule";
-
-const USAGE: &[u8] =
-    b"usage: svrand run [--seed N] [--budget N] [--size-cap N] [--proofs]\n       svrand load N [--seed N] [--budget N] [--size-cap N] [--proofs]\n";
-
+/// A run: its words, its text, which calls of the source and of the sink fail, and how much the sink takes.
 #[derive(Clone, Copy)]
 struct Case<'a> {
     words: &'a [&'a str],
     text: &'a [u8],
-    room: usize,
     read_fails: &'a [u64],
     write_fails: &'a [u64],
+    room: usize,
+}
+
+/// How a run ended, and what it wrote.
+#[derive(Drop)]
+struct Ended {
     status: Status,
-    written: &'a [u8],
+    out: MemSink,
+    journal: MemSink,
 }
 
-// Whether the run ends and writes as the case says.
-fn is_met(alloc: Global, case: &Case<'_>) -> Result<bool, Fail> {
-    let mut words = Vec::new(alloc);
-    for word in case.words {
-        words.push(String::from_str(alloc, word)?)?;
+fn words_of(alloc: Global, words: &[&str]) -> Result<Vec<String>, Fail> {
+    let mut made = Vec::new(alloc);
+    for word in words {
+        made.push(String::from_str(alloc, word)?)?;
     }
-    let text = Vec::from_slice(alloc, case.text)?;
-    let read_fails = Vec::from_slice(alloc, case.read_fails)?;
-    let write_fails = Vec::from_slice(alloc, case.write_fails)?;
-    let mut src = MemSource::new(text, 10, read_fails);
-    let mut out = MemSink::new(alloc, case.room, write_fails)?;
-    let mut journal = MemSink::new(alloc, 0, Vec::new(alloc))?;
+    Ok(made)
+}
+
+fn source(alloc: Global, text: &[u8], fails: &[u64]) -> Result<MemSource, Fail> {
+    let fails = Vec::from_slice(alloc, fails)?;
+    Ok(MemSource::new(Vec::from_slice(alloc, text)?, 10, fails))
+}
+
+fn sink(alloc: Global, room: usize, fails: &[u64]) -> Result<MemSink, Fail> {
+    let fails = Vec::from_slice(alloc, fails)?;
+    Ok(MemSink::new(alloc, room, fails)?)
+}
+
+fn end_of(alloc: Global, asked: &Case<'_>) -> Result<Ended, Fail> {
+    let mut out = sink(alloc, asked.room, asked.write_fails)?;
+    let mut journal = sink(alloc, 4000, &[])?;
+    let mut src = source(alloc, asked.text, asked.read_fails)?;
+    let words = words_of(alloc, asked.words)?;
     let status = run(alloc, &words, &mut src, &mut out, &mut journal);
-    Ok(status == case.status && out.bytes() == case.written)
+    Ok(Ended {
+        status,
+        out,
+        journal,
+    })
 }
 
-#[test]
-fn scripts_and_words(rt: HostRuntime) -> Result<(), Fail> {
-    let plain = Case {
-        words: &["run"],
-        text: SCRIPT,
-        read_fails: &[],
-        write_fails: &[],
-        room: 200,
-        status: Status::AllOne,
-        written: b"#1 p 1 a=5\n",
-    };
-    let cases = [
-        plain,
-        Case {
-            words: &["run", "--seed", "0042"],
-            ..plain
-        },
-        Case {
-            text: TOO_WIDE,
-            status: Status::Refused,
-            written: b"refused 0:0 28\n",
-            ..plain
-        },
-        Case {
-            text: NO_VALUE,
-            status: Status::SomeZero,
-            written: b"#1 p 0 hard\n",
-            ..plain
-        },
-        Case {
-            words: &["run", "--seed", "x"],
-            status: Status::Usage,
-            written: USAGE,
-            ..plain
-        },
-        Case {
-            words: &[],
-            status: Status::Usage,
-            written: USAGE,
-            ..plain
-        },
-        Case {
-            words: &["run", "--seed", "18446744073709551615"],
-            ..plain
-        },
-        Case {
-            words: &["run", "--seed", ""],
-            status: Status::Usage,
-            written: USAGE,
-            ..plain
-        },
-        Case {
-            words: &["run", "--seed", "18446744073709551616"],
-            status: Status::Usage,
-            written: USAGE,
-            ..plain
-        },
-        Case {
-            read_fails: &[2],
-            status: Status::ReadFault,
-            written: b"",
-            ..plain
-        },
-        Case {
-            write_fails: &[1],
-            status: Status::WriteFault,
-            written: b"",
-            ..plain
-        },
-        Case {
-            room: 7,
-            status: Status::WriteFault,
-            written: b"#1 p 1 ",
-            ..plain
-        },
-    ];
-    for (i, case) in cases.iter().enumerate() {
-        assert!(rt; is_met(rt.alloc(), case)?, "case {i}");
-    }
-    Ok(())
+/// Whether a run ends and writes so.
+fn says(alloc: Global, asked: &Case<'_>, status: Status, written: &[u8]) -> Result<bool, Fail> {
+    let ended = end_of(alloc, asked)?;
+    Ok(ended.status == status && ended.out.bytes() == written)
 }
 
 /// A class with these items in it, one object of it, and these statements.
@@ -139,85 +69,343 @@ fn script(alloc: Global, items: &[u8], stmts: &[u8]) -> Result<Vec<u8>, Fail> {
     Ok(text)
 }
 
-// Whether a run over the text, with ample memory, ends and writes so.
-fn says(alloc: Global, text: &[u8], status: Status, written: &[u8]) -> Result<bool, Fail> {
-    is_met(
-        alloc,
-        &Case {
-            words: &["run"],
-            text,
-            room: 200,
-            read_fails: &[],
-            write_fails: &[],
-            status,
-            written,
-        },
-    )
-}
+const SCRIPT: &[u8] =
+    b"class P;\nrand bit [3:0] a; constraint c { a == 5; }\nendclass\nmodule m;\ninitial begin\nP p = new;\nrepeat (3) p.randomize();\nend\nendmodule\n";
 
-// What a class with these items answers.
-const ANSWERS: [(&[u8], Status, &[u8]); 10] = [
-    (
-        b"rand bit [3:0] a; constraint c { a < 3 && a > 5; }",
-        Status::SomeZero,
-        b"#1 p 0 hard\n",
-    ),
-    (
-        b"rand bit [2:0] a; rand bit [2:0] b; constraint c { a > b; b >= 6; }",
-        Status::AllOne,
-        b"#1 p 1 a=7 b=6\n",
-    ),
-    (
-        b"rand bit a; constraint c { !(a == 0) || a > 1; }",
-        Status::AllOne,
-        b"#1 p 1 a=1\n",
-    ),
-    (
-        b"rand bit [12:0] a; constraint c { a == 5; }",
-        Status::Refused,
-        b"refused 0:0 28\n",
-    ),
-    // Two literals are compared as signed, a literal and a property as unsigned.
-    (
-        b"constraint c { 2147483648 > 1; }",
-        Status::SomeZero,
-        b"#1 p 0 hard\n",
-    ),
-    (
-        b"rand bit a; constraint c { a == 1; a < 2147483648; }",
-        Status::AllOne,
-        b"#1 p 1 a=1\n",
-    ),
-    // A literal of another spelling is the same one.
-    (
-        b"rand bit [3:0] a; constraint c { a == 32'shA; }",
-        Status::AllOne,
-        b"#1 p 1 a=10\n",
-    ),
-    (b"constraint c { }", Status::AllOne, b"#1 p 1\n"),
-    (
-        b"rand bit a; constraint a { }",
-        Status::Refused,
-        b"refused 2:24 8\n",
-    ),
-    (
-        b"rand bit a; constraint c { soft a == 1; }",
-        Status::Refused,
-        b"refused 0:0 28\n",
-    ),
+const LINES: &[u8] = b"#1 p 1 a=5\n#2 p 1 a=5\n#3 p 1 a=5\n";
+
+const USAGE: &[u8] =
+    b"usage: svrand run [--seed N] [--budget N] [--size-cap N] [--proofs]\n       svrand load N [--seed N] [--budget N] [--size-cap N] [--proofs]\n";
+
+const PLAIN: Case<'static> = Case {
+    words: &["run"],
+    text: SCRIPT,
+    read_fails: &[],
+    write_fails: &[],
+    room: 4000,
+};
+
+// Words that ask for a run.
+const ASKED: [&[&str]; 6] = [
+    &["run"],
+    &["run", "--seed", "0042"],
+    &["run", "--seed=42"],
+    &["run", "--seed", "18446744073709551615"],
+    &["run", "--proofs", "--size-cap", "2048", "--budget", "64"],
+    &["run", "--budget=16777216", "--seed=+7", "--size-cap=1"],
+];
+
+// Words that ask for none.
+const OTHER: [&[&str]; 15] = [
+    &[],
+    &["--seed", "1"],
+    &["load", "10"],
+    &["run", "--seed"],
+    &["run", "--seed", "x"],
+    &["run", "--seed", ""],
+    &["run", "--seed", "18446744073709551616"],
+    &["run", "--seed", "1", "--seed", "2"],
+    &["run", "--budget", "0"],
+    &["run", "--budget", "16777217"],
+    &["run", "--size-cap", "0"],
+    &["run", "--size-cap", "2049"],
+    &["run", "--proofs=true"],
+    &["run", "--help"],
+    &["run", "1"],
 ];
 
 #[test]
-fn answers(rt: HostRuntime) -> Result<(), Fail> {
-    for (i, (items, status, line)) in ANSWERS.iter().enumerate() {
-        let text = script(rt.alloc(), items, b"p.randomize();")?;
-        assert!(rt; says(rt.alloc(), &text, *status, line)?, "answer {i}");
+fn commands(rt: HostRuntime) -> Result<(), Fail> {
+    for (i, words) in ASKED.iter().enumerate() {
+        let asked = Case {
+            words: *words,
+            ..PLAIN
+        };
+        assert!(rt;
+            says(rt.alloc(), &asked, Status::AllOne, LINES)?,
+            "asked {i}"
+        );
+    }
+    for (i, words) in OTHER.iter().enumerate() {
+        let asked = Case {
+            words: *words,
+            ..PLAIN
+        };
+        assert!(rt;
+            says(rt.alloc(), &asked, Status::Usage, USAGE)?,
+            "other {i}"
+        );
     }
     Ok(())
 }
 
+#[test]
+fn faults(rt: HostRuntime) -> Result<(), Fail> {
+    let read = Case {
+        read_fails: &[2],
+        ..PLAIN
+    };
+    assert!(rt; says(rt.alloc(), &read, Status::ReadFault, b"")?);
+    let second = Case {
+        write_fails: &[2],
+        ..PLAIN
+    };
+    assert!(rt; says(rt.alloc(), &second, Status::WriteFault, b"#1 p 1 a=5\n")?);
+    let short = Case { room: 15, ..PLAIN };
+    assert!(rt; says(rt.alloc(), &short, Status::WriteFault, b"#1 p 1 a=5\n#2 p")?);
+    Ok(())
+}
+
+// Words, a class with these items, and these statements: how the run ends, and what it prints.
+const RUNS: [(&[&str], &[u8], &[u8], Status, &[u8]); 16] = [
+    (
+        &["run"],
+        b"rand bit [3:0] a = 7; constraint c { a < 3 && a > 5; }",
+        b"p.randomize(); p.constraint_mode(0); p.randomize(null);",
+        Status::SomeZero,
+        b"#1 p 0 hard\n#2 p 1 a=7\n",
+    ),
+    (
+        &["run"],
+        b"",
+        b"p.randomize();",
+        Status::AllOne,
+        b"#1 p 1\n",
+    ),
+    (
+        &["run"],
+        b"rand bit [7:0] a; constraint c { a + 8'd1 == 8'd0; } constraint d { a + 8'd1 == 0; }",
+        b"p.d.constraint_mode(0); p.randomize(); p.d.constraint_mode(1); p.randomize();",
+        Status::SomeZero,
+        b"#1 p 1 a=255\n#2 p 0 hard\n",
+    ),
+    (
+        &["run"],
+        b"rand bit [7:0] a; rand byte b; constraint c { a == -1; } constraint d { b == -1; }",
+        b"p.randomize(); p.c.constraint_mode(0); p.a.rand_mode(0); p.randomize();",
+        Status::SomeZero,
+        b"#1 p 0 hard\n#2 p 1 a=0 b=-1\n",
+    ),
+    (
+        &["run"],
+        b"rand longint x; rand longint y; constraint c { x == 64'sh8000_0000_0000_0000; x / -1 == x; y == x % 0; }",
+        b"p.randomize();",
+        Status::AllOne,
+        b"#1 p 1 x=-9223372036854775808 y=0\n",
+    ),
+    (
+        &["run"],
+        b"int d []; rand int s; constraint c { s == d.size() + d[1]; }",
+        b"p.d = new[3]; p.d[1] = 40; p.d[7] = 9; p.randomize();",
+        Status::AllOne,
+        b"#1 p 1 d=[0,40,0] s=43\n",
+    ),
+    (
+        &["run"],
+        b"rand bit [3:0] x;",
+        b"int x = 9; p.randomize() with { x == local::x; };",
+        Status::AllOne,
+        b"#1 p 1 x=9\n",
+    ),
+    (
+        &["run"],
+        b"rand bit [3:0] a; bit [3:0] s; constraint c { a == s; }",
+        b"p.a = 4; p.randomize(s); p.a = 5; p.randomize(null);",
+        Status::SomeZero,
+        b"#1 p 1 a=4 s=4\n#2 p 0 hard\n",
+    ),
+    (
+        &["run"],
+        b"bit [7:0] t [];",
+        b"p.t = new[2]; p.t[1] = 300; p.randomize();",
+        Status::AllOne,
+        b"#1 p 1 t=[0,44]\n",
+    ),
+    // A question that two steps answer, and one step does not.
+    (
+        &["run"],
+        b"rand bit a; rand bit b; rand bit c; constraint u { a != b; b != c; a != c; }",
+        b"p.randomize();",
+        Status::SomeZero,
+        b"#1 p 0 hard\n",
+    ),
+    (
+        &["run", "--budget", "1"],
+        b"rand bit a; rand bit b; rand bit c; constraint u { a != b; b != c; a != c; } constraint d { a == 1; b == 0; c == 1; }",
+        b"p.d.constraint_mode(0); p.randomize(); p.u.constraint_mode(0); p.d.constraint_mode(1); p.randomize();",
+        Status::SomeGivenUp,
+        b"#1 p gaveup hard\n#2 p 1 a=1 b=0 c=1\n",
+    ),
+    // What its calls tell, and then a call that is not answered yet.
+    (
+        &["run"],
+        b"rand bit a; constraint c { a == 1; }",
+        b"p.randomize(); p.randomize() with { soft a == 0; }; p.randomize();",
+        Status::Refused,
+        b"#1 p 1 a=1\nrefused 0:0 28\n",
+    ),
+    (
+        &["run"],
+        b"randc bit a;",
+        b"p.randomize();",
+        Status::Refused,
+        b"refused 0:0 28\n",
+    ),
+    // Refusals of elaboration: the first in the text is told.
+    (
+        &["run"],
+        b"rand bit a; constraint c { b == 1; }",
+        b"q.randomize();",
+        Status::Refused,
+        b"refused 2:28 7\n",
+    ),
+    (
+        &["run"],
+        b"randc bit [8:0] a;",
+        b"p.randomize();",
+        Status::Refused,
+        b"refused 2:17 13\n",
+    ),
+    (
+        &["run"],
+        b"rand bit a;",
+        b"P q; q.randomize();",
+        Status::Refused,
+        b"refused 7:6 26\n",
+    ),
+];
+
+#[test]
+fn scripts(rt: HostRuntime) -> Result<(), Fail> {
+    for (i, (words, items, stmts, status, written)) in RUNS.iter().enumerate() {
+        let text = script(rt.alloc(), items, stmts)?;
+        let asked = Case {
+            words: *words,
+            text: &text,
+            ..PLAIN
+        };
+        assert!(rt; says(rt.alloc(), &asked, *status, written)?, "run {i}");
+    }
+    Ok(())
+}
+
+/// Whether a run ends so, and what is printed and the journal begin and end so.
+fn tells(
+    alloc: Global,
+    asked: &Case<'_>,
+    status: Status,
+    begin: &[u8],
+    end: &[u8],
+    journal: &[u8],
+) -> Result<bool, Fail> {
+    let ended = end_of(alloc, asked)?;
+    let printed = ended.out.bytes();
+    Ok(
+        ended.status == status
+            && printed.starts_with(begin)
+            && printed.ends_with(end)
+            && ended.journal.bytes().starts_with(journal),
+    )
+}
+
+// The last of 54 calls with seed 42, whose words are those of PCG XSL RR 128/64 in its reference implementation.
+#[test]
+fn seed(rt: HostRuntime) -> Result<(), Fail> {
+    let drawn = script(
+        rt.alloc(),
+        b"rand bit [7:0] a; rand bit [7:0] b; rand bit [3:0] c;",
+        b"repeat (54) p.randomize();",
+    )?;
+    let asked = Case {
+        words: &["run", "--seed", "42"],
+        text: &drawn,
+        ..PLAIN
+    };
+    assert!(rt;
+        tells(
+            rt.alloc(),
+            &asked,
+            Status::AllOne,
+            b"#1 p 1 a=",
+            b"\n#54 p 1 a=104 b=57 c=8\n",
+            b""
+        )?
+    );
+    Ok(())
+}
+
+// A proof, and the log of a question that was given up.
+#[test]
+fn proofs(rt: HostRuntime) -> Result<(), Fail> {
+    let unequal = script(
+        rt.alloc(),
+        b"rand bit a; rand bit b; rand bit c; constraint u { a != b; b != c; a != c; }",
+        b"p.randomize();",
+    )?;
+    let printed = Case {
+        words: &["run", "--proofs"],
+        text: &unequal,
+        ..PLAIN
+    };
+    assert!(rt;
+        tells(
+            rt.alloc(),
+            &printed,
+            Status::SomeZero,
+            b"#1 p 0 hard\np hard\n",
+            b"\ne\n",
+            b""
+        )?
+    );
+    let given_up = Case {
+        words: &["run", "--budget=1"],
+        text: &unequal,
+        ..PLAIN
+    };
+    assert!(rt;
+        tells(
+            rt.alloc(),
+            &given_up,
+            Status::SomeGivenUp,
+            b"#1 p gaveup hard\n",
+            b"gaveup hard\n",
+            b"p gaveup hard\n"
+        )?
+    );
+    Ok(())
+}
+
+/// So many times an item of weight 8,259.
+fn heavy(alloc: Global, items: usize) -> Result<Vec<u8>, Fail> {
+    let mut text = Vec::from_slice(
+        alloc,
+        b"rand longint a; rand longint b; constraint c { a == 1; b == 1; } constraint h {",
+    )?;
+    for _item in 0..items {
+        text.extend_from_slice(b" a * b == 1;")?;
+    }
+    text.extend_from_slice(b" }")?;
+    script(
+        alloc,
+        &text,
+        b"p.h.constraint_mode(0); p.randomize(); p.h.constraint_mode(1); p.c.constraint_mode(0); p.randomize(); p.randomize();",
+    )
+}
+
+#[test]
+fn limit(rt: HostRuntime) -> Result<(), Fail> {
+    let text = heavy(rt.alloc(), 122)?;
+    let asked = Case {
+        text: &text,
+        ..PLAIN
+    };
+    let lines = b"#1 p 1 a=1 b=1\n#2 p limit weight 1007598\n";
+    assert!(rt; says(rt.alloc(), &asked, Status::Limited, lines)?);
+    Ok(())
+}
+
 // Where a text is refused, and why.
-const REFUSALS: [(&[u8], &[u8]); 8] = [
+const REFUSALS: [(&[u8], &[u8]); 9] = [
     (b"", b"refused 1:1 5\n"),
     (b"/* x", b"refused 1:1 2\n"),
     (b"0'd1", b"refused 1:1 3\n"),
@@ -230,60 +418,22 @@ const REFUSALS: [(&[u8], &[u8]); 8] = [
     ),
     (b"\tclass\r\n P; /*\n*/\trand rand", b"refused 3:9 5\n"),
     (b"class P; 4294967296", b"refused 1:10 4\n"),
+    (
+        b"class P; rand bit [3:0] a; endclass module m; initial begin P p = new;\np.randomize() with { a == 5;\nend endmodule",
+        b"refused 3:1 5\n",
+    ),
 ];
 
 #[test]
 fn refusals(rt: HostRuntime) -> Result<(), Fail> {
     for (i, (text, line)) in REFUSALS.iter().enumerate() {
+        let asked = Case {
+            text: *text,
+            ..PLAIN
+        };
         assert!(rt;
-            says(rt.alloc(), text, Status::Refused, line)?,
+            says(rt.alloc(), &asked, Status::Refused, line)?,
             "refusal {i}"
-        );
-    }
-    let open = script(
-        rt.alloc(),
-        b"rand bit [3:0] a;",
-        b"p.randomize() with { a == 5;",
-    )?;
-    assert!(rt; says(rt.alloc(), &open, Status::Refused, b"refused 8:1 5\n")?);
-    Ok(())
-}
-
-// What a class with these items and these statements behind its object is refused for.
-const MEANINGS: [(&[u8], &[u8], &[u8]); 7] = [
-    (
-        b"rand bit a; constraint c { b == 1; }",
-        b"p.randomize();",
-        b"refused 2:28 7\n",
-    ),
-    (b"rand bit a;", b"q.randomize();", b"refused 7:1 7\n"),
-    (
-        b"rand bit a; rand bit a;",
-        b"p.randomize();",
-        b"refused 2:22 8\n",
-    ),
-    (b"rand bit [64:0] a;", b"p.randomize();", b"refused 2:6 9\n"),
-    (
-        b"randc bit [8:0] a;",
-        b"p.randomize();",
-        b"refused 2:17 13\n",
-    ),
-    (b"rand bit a;", b"P q; q.randomize();", b"refused 7:6 26\n"),
-    // The first in the text is told.
-    (
-        b"rand bit a; constraint c { b == 1; }",
-        b"q.randomize();",
-        b"refused 2:28 7\n",
-    ),
-];
-
-#[test]
-fn meanings(rt: HostRuntime) -> Result<(), Fail> {
-    for (i, (items, stmts, line)) in MEANINGS.iter().enumerate() {
-        let text = script(rt.alloc(), items, stmts)?;
-        assert!(rt;
-            says(rt.alloc(), &text, Status::Refused, line)?,
-            "meaning {i}"
         );
     }
     Ok(())
@@ -300,33 +450,24 @@ fn nested(alloc: Global, pairs: usize) -> Result<Vec<u8>, Fail> {
 }
 
 #[test]
-fn height(rt: HostRuntime) -> Result<(), Fail> {
+fn height_and_length(rt: HostRuntime) -> Result<(), Fail> {
     let low = nested(rt.alloc(), 125)?;
-    assert!(rt; says(rt.alloc(), &low, Status::AllOne, b"#1 p 1 a=1\n")?);
+    let asked = Case {
+        text: &low,
+        ..PLAIN
+    };
+    assert!(rt; says(rt.alloc(), &asked, Status::AllOne, b"#1 p 1 a=1\n")?);
     let high = nested(rt.alloc(), 126)?;
-    assert!(rt; says(rt.alloc(), &high, Status::Refused, b"refused 2:158 6\n")?);
-    Ok(())
-}
-
-#[test]
-fn too_long(rt: HostRuntime) -> Result<(), Fail> {
-    let text = vec![in rt.alloc(); b' '; 4_194_305]?;
-    let mut src = MemSource::new(text, 65_536, Vec::new(rt.alloc()));
-    let mut out = MemSink::new(rt.alloc(), 99, Vec::new(rt.alloc()))?;
-    let mut journal = NullSink::new();
-    let words = vec![in rt.alloc(); String::from_str(rt.alloc(), "run")?]?;
-    let status = run(rt.alloc(), &words, &mut src, &mut out, &mut journal);
-    assert!(rt; status == Status::Refused);
-    assert!(rt; out.bytes() == b"refused 0:0 27\n".as_slice());
-    Ok(())
-}
-
-// The first words of PCG XSL RR 128/64 in its reference implementation, for seed 42 and stream 54.
-#[test]
-fn words_are_those_of_pcg(rt: HostRuntime) -> Result<(), Fail> {
-    let mut rng = generator(42, 54);
-    assert_eq!(rt; rng.next_word(), 0x86b1_da1d_7206_2b68);
-    assert_eq!(rt; rng.next_word(), 0x1304_aa46_c985_3d39);
-    assert_eq!(rt; rng.next_word(), 0xa367_0e9e_0dd5_0358);
+    let asked = Case {
+        text: &high,
+        ..PLAIN
+    };
+    assert!(rt; says(rt.alloc(), &asked, Status::Refused, b"refused 2:158 6\n")?);
+    let long = vec![in rt.alloc(); b' '; 4_194_305]?;
+    let asked = Case {
+        text: &long,
+        ..PLAIN
+    };
+    assert!(rt; says(rt.alloc(), &asked, Status::Refused, b"refused 0:0 27\n")?);
     Ok(())
 }

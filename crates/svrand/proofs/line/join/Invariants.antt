@@ -1,6 +1,6 @@
 use Rattle.std.proofs.Common.{◌≡◌, take}
 use Rattle.std.specs.List.{concat}
-use Rattle.svr_bits.specs.Names.{seen}
+use Rattle.svrand.specs.Lines.{seen}
 use Rattle.svrand.proofs.line.join.Given as goal
 
 abbrev pub invariant-loop-part : goal.invariant-loop-part

@@ -4,7 +4,8 @@ use Rattle.svr_parse.specs.Parse.{IsFaultOf}
 use Rattle.svr_parse.specs.declared.fault.ParseError.TheVariants.{Unexpected, TooDeep}
 use Rattle.svr_refusal.specs.Place.{place_of}
 use Rattle.svr_refusal.specs.declared.refusal.Refusal.TheVariants as refusal
-use Rattle.svrand.specs.Answer.{refused_at, by_token, by_height}
+use Rattle.svrand.specs.Lines.{refused_at}
+use Rattle.svrand.specs.Answer.{by_token, by_height}
 use Rattle.svrand.proofs.refusal.syntactic.Goals as goal
 
 pub returns-in-Unexpected : goal.returns-in-Unexpected

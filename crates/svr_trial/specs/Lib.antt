@@ -1,3 +1,0 @@
-pub mod Over
-pub mod Answer
-pub mod Agree

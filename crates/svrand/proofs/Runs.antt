@@ -1,0 +1,185 @@
+-- What a run of a design answers.
+use Rattle.std.proofs.Common.{◌≡◌, ◌≤◌, ◌<◌, ◌⊎◌, ℕ, List, ◌++◌, length, Option, refl, sym, ◌∙◌, subst, inl, inr, arith}
+use Rattle.std.specs.Io.KnownBytes.{Appends, Keeps}
+use Rattle.std.proofs.KnownBytes.{Appends-trans}
+use Rattle.svr_edge.specs.Known.{AppendsFront}
+use Rattle.svr_edge.specs.Causes.{Rose}
+use Rattle.svr_limits.specs.declared.limit.TheConstants.{TEXT_LIMIT}
+use Rattle.svr_refusal.specs.declared.refusal.Refusal.TheVariants as refusal
+use Rattle.svr_typed.specs.StmtTerm.{DesignTerm}
+use Rattle.svr_phase.specs.declared.options.Options.{Options}
+use Rattle.svr_script.specs.Printed.{Event}
+use Rattle.svr_script.specs.Run.{State, IsRun, IsSoFar, text_of, journal_of, counts_of}
+use Rattle.svr_script.specs.Ending as ending
+use Rattle.svr_script.specs.Ending.{Ending, HasEnding, Output, output_of}
+use Rattle.svr_run.specs.declared.progress.Counts.{Counts}
+use Rattle.svr_run.specs.declared.run.End.TheVariants as at_end
+use Rattle.svr_run.specs.declared.stop.Stop.TheVariants as stop
+use Rattle.svr_run.specs.Telling.{Sinks, printing_of}
+use Rattle.svr_run.specs.Reached.{Stops}
+use Rattle.svr_run.specs.Ends as run
+use Rattle.svrand.specs.Lines.{refused_at, nowhere}
+use Rattle.svrand.specs.Answer.{HasDesign, Ends, Begins, StopsUnanswered}
+use Rattle.svrand.specs.Outcome.{not_answered, Answers, MayTell, Writing}
+use Rattle.svrand.specs.Parts.{HasStatus, Answered}
+use Rattle.svrand.specs.declared.status.Status.{Status}
+use Rattle.svrand.specs.declared.status.Status.TheVariants.{AllOne, SomeZero, Usage, SomeGivenUp, Refused, Limited, ReadFault, WriteFault, NoMemory}
+use Rattle.svrand.proofs.Written.{front_of_all, front_behind, front_kept, fault_no_read, memory_no_read, memory_no_write, refused_no_read, refused_no_write}
+
+no_less : (m n : ℕ) → n ≡ m → m ≤ n
+no_less m n e = omega arith
+
+module _ (d : DesignTerm) (opts : Options) (text : List ℕ) (small : length text ≤ TEXT_LIMIT) (read : HasDesign text d) where
+  -- ---- to its end
+
+  come_to : (e : Ending) (es : List Event) (t : State) → IsRun d opts es t → HasEnding t (counts_of es) e → Ends opts text e (output_of (printing_of opts) es)
+  come_to e es t is_run has = record { design = d; read = read; run = record { events = es; state = t; run = is_run; ending_is = has; output_is = refl } }
+
+  pub ended_answers : (n : Counts) (status : Status) (old new : Sinks) → run.Ends d opts (at_end.Ended n) old new → HasStatus n status → Answered opts text status old new
+  ended_answers n AllOne old new (es, t, is_run, free, counts, tells) (zeros, given_up) = record {
+    writing = (output_of (printing_of opts) es, (small, come_to ending.AllOne es t is_run (free, sym counts.zeros ∙ zeros, sym counts.given_up ∙ given_up)), tells.printed, tells.logged);
+    was_read = one_no_read;
+    cause = λ f. absurd (one_no_write f);
+    out_later = no_less old.out_faults new.out_faults tells.out_kept;
+    journal_later = no_less old.journal_faults new.journal_faults tells.journal_kept;
+  }
+    where
+      one_no_read : AllOne ≡ ReadFault → ⊥
+      one_no_read e = cc
+
+      one_no_write : AllOne ≡ WriteFault → ⊥
+      one_no_write e = cc
+  ended_answers n SomeZero old new (es, t, is_run, free, counts, tells) (zeros, given_up) = record {
+    writing = (output_of (printing_of opts) es, (small, come_to ending.SomeZero es t is_run (free, subst (λ (k : ℕ). 0 < k) counts.zeros zeros, sym counts.given_up ∙ given_up)), tells.printed, tells.logged);
+    was_read = zero_no_read;
+    cause = λ f. absurd (zero_no_write f);
+    out_later = no_less old.out_faults new.out_faults tells.out_kept;
+    journal_later = no_less old.journal_faults new.journal_faults tells.journal_kept;
+  }
+    where
+      zero_no_read : SomeZero ≡ ReadFault → ⊥
+      zero_no_read e = cc
+
+      zero_no_write : SomeZero ≡ WriteFault → ⊥
+      zero_no_write e = cc
+  ended_answers n SomeGivenUp old new (es, t, is_run, free, counts, tells) given_up = record {
+    writing = (output_of (printing_of opts) es, (small, come_to ending.SomeGivenUp es t is_run (free, subst (λ (k : ℕ). 0 < k) counts.given_up given_up)), tells.printed, tells.logged);
+    was_read = given_no_read;
+    cause = λ f. absurd (given_no_write f);
+    out_later = no_less old.out_faults new.out_faults tells.out_kept;
+    journal_later = no_less old.journal_faults new.journal_faults tells.journal_kept;
+  }
+    where
+      given_no_read : SomeGivenUp ≡ ReadFault → ⊥
+      given_no_read e = cc
+
+      given_no_write : SomeGivenUp ≡ WriteFault → ⊥
+      given_no_write e = cc
+  ended_answers n Usage old new ends none = absurd none
+  ended_answers n Refused old new ends none = absurd none
+  ended_answers n Limited old new ends none = absurd none
+  ended_answers n ReadFault old new ends none = absurd none
+  ended_answers n WriteFault old new ends none = absurd none
+  ended_answers n NoMemory old new ends none = absurd none
+
+  pub limit_answers : (old new : Sinks) → run.Ends d opts at_end.Limit old new → Answered opts text Limited old new
+  limit_answers old new (es, t, is_run, met, tells) = record {
+    writing = (output_of (printing_of opts) es, (small, come_to ending.Limited es t is_run met), tells.printed, tells.logged);
+    was_read = limit_no_read;
+    cause = λ f. absurd (limit_no_write f);
+    out_later = no_less old.out_faults new.out_faults tells.out_kept;
+    journal_later = no_less old.journal_faults new.journal_faults tells.journal_kept;
+  }
+    where
+      limit_no_read : Limited ≡ ReadFault → ⊥
+      limit_no_read e = cc
+
+      limit_no_write : Limited ≡ WriteFault → ⊥
+      limit_no_write e = cc
+
+  -- ---- cut off
+
+  begun : (es : List Event) (t : State) → IsSoFar d opts es t → Begins opts text (output_of (printing_of opts) es)
+  begun es t so_far = record { design = d; read = read; events = es; state = t; so_far = so_far; output_is = refl }
+
+  pub cut_for_memory : (old new : Sinks) → Stops d opts old stop.NoMemory new → Answered opts text NoMemory old new
+  cut_for_memory old new (es, t, so_far, tells) = record {
+    writing = inr (output_of (printing_of opts) es, inr (small, begun es t so_far), tells.printed, tells.logged);
+    was_read = memory_no_read;
+    cause = λ f. absurd (memory_no_write f);
+    out_later = tells.out_later;
+    journal_later = tells.journal_later;
+  }
+
+  pub cut_by_fault : (old new : Sinks) → Stops d opts old stop.WriteFault new → Answered opts text WriteFault old new
+  cut_by_fault old new (es, t, so_far, tells, failed) = record {
+    writing = (output_of (printing_of opts) es, inr (small, begun es t so_far), tells.printed, tells.logged);
+    was_read = fault_no_read;
+    cause = λ f. failed;
+    out_later = tells.out_later;
+    journal_later = tells.journal_later;
+  }
+
+  -- ---- at a call that is not answered yet
+
+  -- what its refusal adds to what is printed
+  abbrev with_refusal : List Event → Output
+  with_refusal es = record { printed = text_of (printing_of opts) es ++ refused_at nowhere refusal.NotAnswered; journal = journal_of es }
+
+  unanswered : (old now : Sinks) (stops : Stops d opts old stop.NotHard now) → StopsUnanswered opts text (with_refusal stops.0)
+  unanswered old now (es, t, so_far, c, rest, left, free, more, tells) = record {
+    design = d;
+    read = read;
+    events = es;
+    state = t;
+    so_far = so_far;
+    next = c;
+    later = rest;
+    left = left;
+    goes_on = free;
+    asks_more = more;
+    printed = refl;
+    journal = refl;
+  }
+
+  pub refusal_answers_call : (old now : Sinks) (stops : Stops d opts old stop.NotHard now) (result : Status) (out : Option (List ℕ)) (faults : ℕ)
+      → ((result ≡ Refused) × Appends now.out out (refused_at nowhere refusal.NotAnswered))
+      ⊎ (((result ≡ WriteFault) × AppendsFront now.out out (refused_at nowhere refusal.NotAnswered) × Rose now.out_faults faults)
+      ⊎ ((result ≡ NoMemory) × Keeps now.out out)) → now.out_faults ≤ faults
+      → Answered opts text result old (record { out = out; journal = now.journal; out_faults = faults; journal_faults = now.journal_faults })
+  refusal_answers_call old now (es, t, so_far, c, rest, left, free, more, tells) result out faults (inl (e, all)) later = record {
+    writing = subst (λ s. Writing (Answers opts text) (MayTell opts text) s old (record { out = out; journal = now.journal; out_faults = faults; journal_faults = now.journal_faults })) (sym e) (
+      with_refusal es,
+      not_answered small (unanswered old now (es, t, so_far, c, rest, left, free, more, tells)),
+      Appends-trans old.out now.out out (text_of (printing_of opts) es) (refused_at nowhere refusal.NotAnswered) tells.printed all,
+      tells.logged,
+    );
+    was_read = λ f. refused_no_read (sym e ∙ f);
+    cause = λ f. absurd (refused_no_write (sym e ∙ f));
+    out_later = subst (λ (n : ℕ). n ≤ faults) tells.out_kept later;
+    journal_later = no_less old.journal_faults now.journal_faults tells.journal_kept;
+  }
+  refusal_answers_call old now (es, t, so_far, c, rest, left, free, more, tells) result out faults (inr (inl (e, front, rose))) later = record {
+    writing = subst (λ s. Writing (Answers opts text) (MayTell opts text) s old (record { out = out; journal = now.journal; out_faults = faults; journal_faults = now.journal_faults })) (sym e) (
+      with_refusal es,
+      inl (Refused, not_answered small (unanswered old now (es, t, so_far, c, rest, left, free, more, tells))),
+      front_behind old.out now.out out (text_of (printing_of opts) es) (refused_at nowhere refusal.NotAnswered) tells.printed front,
+      front_of_all old.journal now.journal (journal_of es) tells.logged,
+    );
+    was_read = λ f. fault_no_read (sym e ∙ f);
+    cause = λ f. inl (subst (λ (n : ℕ). Rose n faults) tells.out_kept rose);
+    out_later = subst (λ (n : ℕ). n ≤ faults) tells.out_kept later;
+    journal_later = no_less old.journal_faults now.journal_faults tells.journal_kept;
+  }
+  refusal_answers_call old now (es, t, so_far, c, rest, left, free, more, tells) result out faults (inr (inr (e, kept))) later = record {
+    writing = subst (λ s. Writing (Answers opts text) (MayTell opts text) s old (record { out = out; journal = now.journal; out_faults = faults; journal_faults = now.journal_faults })) (sym e) (inr (
+      output_of (printing_of opts) es,
+      inr (small, begun es t so_far),
+      front_kept old.out now.out out (text_of (printing_of opts) es) tells.printed kept,
+      front_of_all old.journal now.journal (journal_of es) tells.logged,
+    ));
+    was_read = λ f. memory_no_read (sym e ∙ f);
+    cause = λ f. absurd (memory_no_write (sym e ∙ f));
+    out_later = subst (λ (n : ℕ). n ≤ faults) tells.out_kept later;
+    journal_later = no_less old.journal_faults now.journal_faults tells.journal_kept;
+  }

@@ -1,0 +1,37 @@
+-- What the functions of the program promise one another.
+use Rattle.std.specs.Prelude.{◌≡◌, ◌<◌, ◌≤◌, List, ℕ}
+use Rattle.svr_typed.specs.StmtTerm.{design_term}
+use Rattle.svr_phase.specs.declared.options.Options.{Options}
+use Rattle.svr_run.specs.declared.progress.Counts.{Counts}
+use Rattle.svr_run.specs.Telling.{Sinks, SinkFailed}
+use Rattle.svrand.specs.Answer.{HasDesign, IsRefused}
+use Rattle.svrand.specs.Outcome.{Answers, MayTell, Writing}
+use Rattle.svrand.specs.declared.design.Reading.{Reading}
+use Rattle.svrand.specs.declared.design.Reading.TheVariants as reading
+use Rattle.svrand.specs.declared.status.Status.{Status}
+use Rattle.svrand.specs.declared.status.Status.TheVariants.{AllOne, SomeZero, Usage, SomeGivenUp, Refused, Limited, ReadFault, WriteFault, NoMemory}
+
+-- what a text within the limit comes to
+abbrev pub ComesTo : List ℕ → Reading → Type 0
+ComesTo text (reading.Accepted design) = HasDesign text (design_term design)
+ComesTo text (reading.Refused line) = IsRefused text line.items
+
+-- the status of a run that came to its end with so many answers
+abbrev pub HasStatus : Counts → Status → Type 0
+HasStatus n AllOne = (n.zeros ≡ 0) × (n.given_up ≡ 0)
+HasStatus n SomeZero = (0 < n.zeros) × (n.given_up ≡ 0)
+HasStatus n SomeGivenUp = 0 < n.given_up
+HasStatus n Usage = ⊥
+HasStatus n Refused = ⊥
+HasStatus n Limited = ⊥
+HasStatus n ReadFault = ⊥
+HasStatus n WriteFault = ⊥
+HasStatus n NoMemory = ⊥
+
+-- a text that was read is answered with this status, and so much was written
+pub record Answered (opts : Options) (text : List ℕ) (status : Status) (old new : Sinks) : Type 0 where
+  pub writing : Writing (Answers opts text) (MayTell opts text) status old new
+  pub was_read : status ≡ ReadFault → ⊥
+  pub cause : status ≡ WriteFault → SinkFailed old new
+  pub out_later : old.out_faults ≤ new.out_faults
+  pub journal_later : old.journal_faults ≤ new.journal_faults

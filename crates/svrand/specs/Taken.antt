@@ -1,0 +1,26 @@
+-- What was taken for the options of a run.
+use Rattle.std.specs.Prelude.{◌≡◌, ◌≤◌, ◌<◌, ◌||◌, ◌^◌, ℕ, true, List, Some, codes}
+use Rattle.std.specs.Str.{bytes_eq}
+use Rattle.std.specs.Str.Parse.{IsNumeral, digits_value, without_leading_plus}
+use Rattle.clap.specs.Values.{IsUnsignedIn}
+use Rattle.clap.specs.Matches.{one_text}
+use Rattle.clap.specs.declared.parser.matches.Found.{Found}
+use Rattle.svr_phase.specs.declared.options.Options.{Options}
+
+-- a text that was taken for this option writes a number from low to high
+abbrev pub IsNumber : Found → List ℕ → ℕ → ℕ → Type 0
+IsNumber f name low high = (text : List ℕ) → one_text f name ≡ Some text → IsUnsignedIn low high text
+
+-- what was taken is a word for a truth
+abbrev pub IsTruth : Found → List ℕ → Type 0
+IsTruth f name = (text : List ℕ) → one_text f name ≡ Some text → (bytes_eq text (codes "true") || bytes_eq text (codes "false")) ≡ true
+
+pub record AreTaken (f : Found) : Type 0 where
+  pub seed : IsNumber f (codes "seed") 0 18446744073709551615
+  pub budget : IsNumber f (codes "budget") 1 16777216
+  pub size_cap : IsNumber f (codes "size-cap") 1 2048
+  pub proofs : IsTruth f (codes "proofs")
+
+-- a question may take some step, and no array is greater than its limit
+abbrev pub AreInRange : Options → Type 0
+AreInRange opts = (1 ≤ opts.budget) × (opts.size_cap ≤ 2048)
