@@ -1,9 +1,12 @@
 #!/usr/bin/env python3
-"""Writes the scripts of the elaboration benchmark into a folder.
+"""Writes the scripts of the benchmarks of elaboration and of calls into a folder.
 
 many.sv has 2,000 classes, each with an array, a loop and a soft item, and a
 variable and a call for each; wide.sv has one class of 1,000 properties, and
 items of 90 operands or 400 members up to 4 MiB, the most that is read.
+searched.sv has 1,000 calls of a class of ten `int` properties and twenty items,
+which preferred values hardly ever meet; preferred.sv has 99,998 calls, as many as may be, of a class
+whose items they always meet.
 
 usage: scripts.py FOLDER
 """
@@ -62,11 +65,33 @@ def wide(count):
     return "".join(parts + [tail])
 
 
+def calls(count, items):
+    """So many calls of a class of ten `int` properties with these items."""
+    props = "".join(f"rand int a{i};\n" for i in range(10))
+    head = f"class Packet;\n{props}constraint c {{\n{items}}}\nendclass\n"
+    return f"{head}module m;\ninitial begin\nPacket p = new;\nrepeat ({count}) p.randomize();\nend\nendmodule\n"
+
+
+def searched(count):
+    """Ten bounds, and ten relations of two neighbours."""
+    items = "".join(f"a{i} inside {{[{i + 1}:{1000 * (i + 1)}]}};\n" for i in range(10))
+    items += "".join(f"a{i} + {i} < a{i + 1};\n" for i in range(9)) + "a0 + a1 != a2;\n"
+    return calls(count, items)
+
+
+def preferred(count):
+    """Twenty items that all values meet."""
+    items = "".join(f"a{i} <= 32'sh7fffffff;\n(a{i} ^ a{i}) == 0;\n" for i in range(10))
+    return calls(count, items)
+
+
 def main():
     folder = pathlib.Path(sys.argv[1])
     folder.mkdir(parents=True, exist_ok=True)
     (folder / "many.sv").write_text(many(2000))
     (folder / "wide.sv").write_text(wide(1000))
+    (folder / "searched.sv").write_text(searched(1000))
+    (folder / "preferred.sv").write_text(preferred(99_998))
 
 
 if __name__ == "__main__":
