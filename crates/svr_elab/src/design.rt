@@ -12,6 +12,8 @@ use crate::property::{properties, text};
 use indexmap::IndexMap;
 use sqlite_items::Items;
 use std::alloc::Global;
+use svr_elab_expr::beside;
+use svr_elab_form::pushed;
 use svr_elab_names::{ClassNames, VarStand};
 use svr_typed::{Design, EnumType, NoMemory, TBlock, TClass, TStmt, TVar, VarKind};
 
@@ -40,15 +42,10 @@ fn and_class(
 ) -> Result<Option<Items<TClass>>, NoMemory>
     ensures { IfOk result (λ cs. option_map terms_of_classes cs ≡ and_more (option_map terms_of_classes known) (option_map class_term next)) }
 {
-    let Some(known) = known else {
-        return Ok(None);
-    };
-    let Some(next) = next else {
-        return Ok(None);
-    };
-    let mut all = known;
-    all.push(next)?;
-    Ok(Some(all))
+    match known.zip(next) {
+        None => Ok(None),
+        Some((known, next)) => Ok(Some(pushed(known, next)?)),
+    }
 }
 
 /// The classes with one more, whose blocks are the last of these.
@@ -140,15 +137,10 @@ fn and_variable(
 ) -> Result<Option<Items<TVar>>, NoMemory>
     ensures { IfOk result (λ vs. vs ≡ and_more known next) }
 {
-    let Some(known) = known else {
-        return Ok(None);
-    };
-    let Some(next) = next else {
-        return Ok(None);
-    };
-    let mut all = known;
-    all.push(next)?;
-    Ok(Some(all))
+    match known.zip(next) {
+        None => Ok(None),
+        Some((known, next)) => Ok(Some(pushed(known, next)?)),
+    }
 }
 
 /// The variables with the one at a place, where there is one and all are known.
@@ -163,7 +155,8 @@ fn next_variable(
     match vars.get_index(place) {
         None => Ok(known),
         Some((name, stand)) => {
-            let next = variable(alloc, name, *stand)?;
+            let next = variable(alloc, name, *stand);
+            let (known, next) = beside(known, next)?;
             let all = and_variable(known, next)?;
             Ok(all)
         }
@@ -194,15 +187,9 @@ fn joined(
 ) -> Option<Design>
     ensures { option_map design_term result ≡ spec.design_of enums (option_map terms_of_classes classes) vars (option_map (map stmt_term) stmts) }
 {
-    let Some(classes) = classes else {
-        return None;
-    };
-    let Some(vars) = vars else {
-        return None;
-    };
-    match stmts {
+    match classes.zip(vars).zip(stmts) {
         None => None,
-        Some(stmts) => Some(Design::new(enums, classes, vars, stmts)),
+        Some(((classes, vars), stmts)) => Some(Design::new(enums, classes, vars, stmts)),
     }
 }
 

@@ -8,6 +8,8 @@ ghost use Rattle.svr_elab.specs.Script as spec;
 use indexmap::IndexMap;
 use sqlite_items::Items;
 use std::alloc::Global;
+use svr_elab_expr::beside;
+use svr_elab_form::pushed;
 use svr_elab_names::{Dims, PropEntry};
 use svr_limits::ELEMENT_LIMIT;
 use svr_typed::{ArrayKind, NoMemory, Prop, Text};
@@ -107,15 +109,10 @@ fn and_property(
 ) -> Result<Option<Items<Prop>>, NoMemory>
     ensures { IfOk result (λ ps. ps ≡ and_more known next) }
 {
-    let Some(known) = known else {
-        return Ok(None);
-    };
-    let Some(next) = next else {
-        return Ok(None);
-    };
-    let mut all = known;
-    all.push(next)?;
-    Ok(Some(all))
+    match known.zip(next) {
+        None => Ok(None),
+        Some((known, next)) => Ok(Some(pushed(known, next)?)),
+    }
 }
 
 /// The properties with the one at a place, where there is one and all are known.
@@ -130,7 +127,8 @@ fn next_property(
     match props.get_index(place) {
         None => Ok(known),
         Some((name, entry)) => {
-            let next = property(alloc, name, *entry)?;
+            let next = property(alloc, name, *entry);
+            let (known, next) = beside(known, next)?;
             let all = and_property(known, next)?;
             Ok(all)
         }

@@ -33,6 +33,7 @@ use indexmap::{IndexMap, IndexSet};
 use sqlite_items::Items;
 use std::alloc::Global;
 use svr_elab_block::{BodiesPart, class_bodies};
+use svr_elab_expr::beside;
 use svr_elab_fault::{Fault, earlier, when};
 use svr_elab_names::{ClassNames, Global as Named, NameSpace, VarStand};
 use svr_elab_random::{Home, with_random};
@@ -267,7 +268,7 @@ fn joined<'a>(
     names: Names<'a>,
     none: &NoNames<'a>,
     known: Globals<'a>,
-    vars: VarsPart<'a>,
+    vars: &VarsPart<'a>,
     listed: &IndexSet<Home>,
     script: &Script,
 ) -> Result<ScriptPart, NoMemory>
@@ -275,26 +276,31 @@ fn joined<'a>(
     requires members { MembersFit (declaring (names_of names) (map global_of known.names.entries) (map class_of known.classes)) }
     requires blocks { BlocksFit (declaring (names_of names) (map global_of known.names.entries) (map class_of known.classes)) }
     requires classes { length script.now.classes ≤ length known.classes }
-    requires vars { length vars.vars.entries < 2 ^ 32 }
+    requires vars { length vars.now.vars.entries < 2 ^ 32 }
     requires fits { ScriptFits (script_tree script.now) }
-    ensures { IfOk result (λ p. script_part p ≡ spec.within first_one (vars_spec.stmt_space (declaring (names_of names.entry) (map global_of known.entry.names.entries) (classes_with listed.now.keys (map class_of known.entry.classes))) (map var_of vars.entry.vars.entries)) (globals_part (names_of names.entry) known.entry) (vars_part vars.entry) (script_tree script.now)) }
+    ensures { IfOk result (λ p. script_part p ≡ spec.within first_one (vars_spec.stmt_space (declaring (names_of names.entry) (map global_of known.entry.names.entries) (classes_with listed.now.keys (map class_of known.entry.classes))) (map var_of vars.now.vars.entries)) (globals_part (names_of names.entry) known.entry) (vars_part vars.now) (script_tree script.now)) }
 {
-    let classes = with_random(alloc, known.classes, listed)?;
+    let label = label_fault(&names, script.unit.name, script.unit.label);
+    let classes = with_random(alloc, known.classes, listed);
+    let (enums, (globals, classes)) = beside(known.enums, beside(known.names, classes))?;
     let list = classes.as_slice();
-    let walked = walk_among(alloc, names, &known.names, list, none, &vars, script)?;
-    let unit = &script.unit;
-    let label = label_fault(&names, unit.name, unit.label);
+    let walked = walk_among(alloc, names, &globals, list, none, vars, script);
+    drop(globals);
+    let (classes, (enums, walked)) = beside(classes, beside(enums, walked))?;
     let bodies = walked.bodies;
     let stmts = walked.stmts;
+    drop(bodies.orders);
     let fault = all_faults(known.fault, vars.fault, bodies.fault, stmts.fault, label);
     let design = design_of(
         alloc,
-        known.enums,
-        list,
+        enums,
+        classes.as_slice(),
         &vars.vars,
         bodies.blocks,
         stmts.trees,
-    )?;
+    );
+    let (classes, design) = beside(classes, design)?;
+    drop(classes);
     Ok(ScriptPart { design, fault })
 }
 
@@ -308,6 +314,6 @@ pub fn script(alloc: Global, names: Names<'_>, script: &Script) -> Result<Script
     let unit = &script.unit;
     let vars = vars_behind(alloc, names, &known, &none, unit)?;
     let homes = listed_behind(alloc, names, &known, &none, &vars.vars, unit)?;
-    let part = joined(alloc, names, &none, known, vars, &homes, script)?;
+    let part = joined(alloc, names, &none, known, &vars, &homes, script)?;
     Ok(part)
 }

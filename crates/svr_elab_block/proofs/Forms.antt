@@ -1,14 +1,17 @@
 -- What the pass needs of each form, by its parts.
-use Rattle.std.proofs.Common.{◌≡◌, ℕ, Bool, true, false, if◌then◌else◌, List, [], Option, sym, ap, ◌∙◌}
+use Rattle.std.proofs.Common.{◌≡◌, ℕ, Bool, true, false, if◌then◌else◌, List, [], ◌∷◌, ◌++◌, Option, refl, sym, ap, ◌∙◌}
 use Rattle.std.specs.List.{list_any, slice_get}
+use Rattle.svr_typed.specs.ClassTerm.{BlockTerm}
 use Rattle.svr_tree.specs.ItemTree.{ItemTrees}
 use Rattle.svr_tree.specs.DeclTree as decl
 use Rattle.svr_tree.specs.DeclTree.{BlockTree, ClassTree}
 use Rattle.svr_elab_fault.specs.declared.Fault.{Fault}
-use Rattle.svr_elab_fault.specs.Refusals.{first_one}
+use Rattle.svr_elab_fault.specs.Refusals.{first_one, earlier}
 use Rattle.svr_elab_names.specs.declared.Region.TheVariants as region
 use Rattle.svr_elab_names.specs.Names.{Space, is_same}
+use Rattle.svr_elab_part.specs.Shapes.{and_more}
 use Rattle.svr_elab_order.specs.declared.Order.{Order}
+use Rattle.svr_elab_order.specs.Cycles.{cycles}
 use Rattle.svr_elab_item.specs.declared.Around.{Around}
 use Rattle.svr_elab_item.specs.Items.{ItemsElab, items, no_items, outside}
 use Rattle.svr_elab_block.specs.Blocks as spec
@@ -39,6 +42,18 @@ pub stands_is : (n : Space) (a : Around) (b r : BodyElab (Option Fault)) (k : Bl
 stands_is n a b r k e is q t p h y i l j w =
     w ∙ ap (λ (e : ItemsElab (Option Fault)). chosen n b k e false) (i ∙ ap (λ (is : ItemTrees). items first_one n a (no_items first_one) is) l ∙ ap (λ (a : Around). known n a k) j)
     ∙ ap (chosen n b k (known n outside k)) (among n b k q t false p h y)
+
+-- one more block
+pub block_is : (n : Space) (k : ℕ) (b : BodyElab (Option Fault)) (e : ItemsElab (Option Fault)) (q r : List ℕ) (is js : ItemTrees) (own named : List (List ℕ)) (bs : Option (List BlockTerm)) (os : List Order) (f : Option Fault)
+    → q ≡ r → own ≡ spec.and_name b.own q → named ≡ spec.and_name b.named q → bs ≡ and_more b.blocks (spec.block_term q e.trees) → os ≡ spec.orders n k b.orders is → is ≡ js → f ≡ earlier b.faults e.faults
+    → (let s : BodyElab (Option Fault) = record { own = own; named = named; blocks = bs; orders = os; faults = f } in s) ≡ spec.with_block first_one b r (spec.orders n k b.orders js) e
+block_is n k b e q r is js own named bs os f is_q is_own is_named is_bs is_os is_is is_f = rw (is_f, is_os, is_is, is_bs, is_named, is_own, is_q) refl
+
+-- the blocks of one more class
+pub body_is : (s : BodiesElab (Option Fault)) (inherited : List Order) (b : BodyElab (Option Fault)) (bs : Option (List (List BlockTerm))) (os : List (List Order)) (whole : List Order) (cycle a e : Option Fault)
+    → bs ≡ and_more s.blocks b.blocks → os ≡ s.orders ++ whole ∷ [] → whole ≡ inherited ++ b.orders → cycle ≡ cycles first_one inherited b.orders → a ≡ earlier b.faults cycle → e ≡ earlier s.faults a
+    → (let r : BodiesElab (Option Fault) = record { blocks = bs; orders = os; faults = e } in r) ≡ spec.and_body first_one s inherited b
+body_is s inherited b bs os whole cycle a e is_bs is_os is_whole is_cycle is_a is_e = rw (is_e, is_a, is_cycle, is_os, is_whole, is_bs) refl
 
 pub class_is : (n i : Space) (k : ℕ) (c : ClassTree) (s r : BodiesElab (Option Fault)) (b : BodyElab (Option Fault)) (os : List Order) (xs : List (List Order))
     → r ≡ spec.and_body first_one s os b → os ≡ spec.without n.text b.named [] (spec.orders_at xs (spec.base_of (slice_get n.classes k))) → xs ≡ s.orders → b ≡ spec.body_items first_one i (spec.no_body first_one) c.items → i ≡ spec.in_class n region.Block k

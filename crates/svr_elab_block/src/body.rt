@@ -1,6 +1,6 @@
 // The bodies of classes, in one pass.
 
-ghost use Rattle.std.specs.Prelude.{◌≡◌, ◌<◌, ◌≤◌, ◌^◌, ◌∷◌, ◌++◌, [], length, map, option_map, IfOk};
+ghost use Rattle.std.specs.Prelude.{◌≡◌, ◌<◌, ◌≤◌, ◌^◌, length, map, option_map, IfOk};
 ghost use Rattle.svr_token.specs.Names.{names_of};
 ghost use Rattle.svr_typed.specs.ClassTerm.{block_term, block_terms};
 ghost use Rattle.svr_tree.specs.ItemTree.{item_trees};
@@ -24,6 +24,7 @@ use crate::solve::and_orders;
 use indexmap::IndexSet;
 use sqlite_items::Items;
 use std::alloc::Global;
+use svr_elab_expr::{beside, both};
 use svr_elab_fault::{Fault, earlier};
 use svr_elab_form::pushed;
 use svr_elab_item::{Around, ItemsPart};
@@ -76,6 +77,19 @@ fn and_typed(
     }
 }
 
+/// These blocks with one of this name, where all are known.
+fn with_typed(
+    alloc: Global,
+    blocks: Option<Items<TBlock>>,
+    name: &[u8],
+    items: Option<Items<TItem>>,
+) -> Result<Option<Items<TBlock>>, NoMemory>
+    ensures { IfOk result (λ bs. option_map (map block_term) bs ≡ and_more (option_map (map block_term) blocks) (spec.block_term name.now (option_map (map item_term) items))) }
+{
+    let (blocks, block) = beside(blocks, typed(alloc, name, items))?;
+    Ok(and_typed(blocks, block)?)
+}
+
 /// A block whose name an earlier declaration has: what it holds is refused all the same.
 fn with_fault(part: BodyPart<'_>, fault: Option<Fault>) -> BodyPart<'_>
     ensures { body_part result ≡ spec.with_faults first_one (body_part part.entry) fault }
@@ -97,17 +111,21 @@ fn with_block<'a>(
     ensures { IfOk result (λ b. body_part b ≡ spec.with_block first_one (body_part part.entry) (names_of names.now.names block.now.name) (spec.orders (space_of names.now) block.now.name part.entry.orders (item_trees block.now.items)) (items_part items)) }
 {
     let name = names.names.name(block.name);
+    let known = both(with_name(part.own, name), with_name(part.named, name));
+    let blocks = with_typed(alloc, part.blocks, name, items.trees);
+    let orders = and_orders(
+        alloc,
+        part.orders,
+        block.items.as_slice(),
+        block.name,
+        names,
+    );
+    let ((own, named), (blocks, orders)) = both(known, both(blocks, orders))?;
     Ok(BodyPart {
-        own: with_name(part.own, name)?,
-        named: with_name(part.named, name)?,
-        blocks: and_typed(part.blocks, typed(alloc, name, items.trees)?)?,
-        orders: and_orders(
-            alloc,
-            part.orders,
-            block.items.as_slice(),
-            block.name,
-            names,
-        )?,
+        own,
+        named,
+        blocks,
+        orders,
         fault: earlier(part.fault, items.fault),
     })
 }
@@ -126,7 +144,8 @@ fn and_block<'a>(
     requires literals { ItemsFit (item_trees block.now.items) }
     ensures { IfOk result (λ b. body_part b ≡ spec.body_item first_one (space_of names.now) (body_part part.entry) (tree.block (block_tree block.now))) }
 {
-    let items = items(alloc, block.items.as_slice(), names, Around::outside())?;
+    let items = items(alloc, block.items.as_slice(), names, Around::outside());
+    let (part, items) = beside(part, items)?;
     if is_among(&part.own, names.names.name(block.name)) {
         Ok(with_fault(part, items.fault))
     } else {
@@ -195,14 +214,6 @@ fn and_blocks(
     }
 }
 
-fn and_all(orders: Items<Items<Order>>, more: Items<Order>) -> Result<Items<Items<Order>>, NoMemory>
-    ensures { IfOk result (λ os. os ≡ orders ++ more ∷ []) }
-{
-    let mut orders = orders;
-    orders.push(more)?;
-    Ok(orders)
-}
-
 /// With the blocks of one more class, and what it inherits.
 fn and_body(
     alloc: Global,
@@ -212,10 +223,14 @@ fn and_body(
 ) -> Result<BodiesPart, NoMemory>
     ensures { IfOk result (λ s. bodies_part s ≡ spec.and_body first_one (bodies_part bodies) inherited (body_part part.entry)) }
 {
-    let (all, cycle) = with_own(alloc, inherited, part.orders)?;
+    drop((part.own, part.named));
+    let blocks = and_blocks(bodies.blocks, part.blocks);
+    let known = both(blocks, with_own(alloc, inherited, part.orders));
+    let (orders, (blocks, (all, cycle))) = beside(bodies.orders, known)?;
+    let (blocks, orders) = beside(blocks, pushed(orders, all))?;
     Ok(BodiesPart {
-        blocks: and_blocks(bodies.blocks, part.blocks)?,
-        orders: and_all(bodies.orders, all)?,
+        blocks,
+        orders,
         fault: earlier(bodies.fault, earlier(part.fault, cycle)),
     })
 }
@@ -236,7 +251,7 @@ fn and_class(
     ensures { IfOk result (λ s. bodies_part s ≡ spec.with_class first_one (space_of names.now) (bodies_part bodies) number (spec.body first_one (space_of names.now) number (class_tree class.now))) }
 {
     let inside = in_class(names, Region::Block, number);
-    let part = body(alloc, class, &inside)?;
+    let (bodies, part) = beside(bodies, body(alloc, class, &inside))?;
     let from_base = inherited(
         alloc,
         bodies.orders.as_slice(),
@@ -244,7 +259,8 @@ fn and_class(
         number,
         &part.named,
         names.names,
-    )?;
+    );
+    let (bodies, (part, from_base)) = beside(bodies, beside(part, from_base))?;
     Ok(and_body(alloc, bodies, from_base, part)?)
 }
 

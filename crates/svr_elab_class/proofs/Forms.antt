@@ -49,10 +49,10 @@ module _ (h : Head) (c : Known) (name : ℕ) (r : Rand) (u : Used) (first : ℕ)
       let t : list_any (is_same (h.names.text name)) c.own ≡ false = sym (ap (λ (q : List ℕ). list_any (is_same q) c.own) is_q) ∙ sym is_twice ∙ holds in
       rw (is_e, is_b, is_a, is_own, is_wide, is_kind, is_inherits, is_ps, is_p, is_arrays, is_names, is_number, is_m, is_again, is_n, is_twice, is_q, t) refl
 
-pub declarator_is : (h : Head) (c : Known) (r : Rand) (u : Used) (t : DeclaratorTree) (s : Known) (d : DimsElab (Option Fault)) (ds : List DimensionTree) (n : Space) (first : ℕ) (f : Option Fault) (kind : Option Vector)
-    → s ≡ spec.and_property first_one h c t.name r u first f d → d ≡ dims_of first_one n t.name ds → ds ≡ t.dims → first ≡ first_number first_one n kind t.value
+pub declarator_is : (h : Head) (c : Known) (r : Rand) (u : Used) (t : DeclaratorTree) (s : Known) (d : DimsElab (Option Fault)) (ds : List DimensionTree) (m n : Space) (first : ℕ) (f : Option Fault) (kind : Option Vector)
+    → s ≡ spec.and_property first_one h c t.name r u first f d → d ≡ dims_of first_one m t.name ds → ds ≡ t.dims → m ≡ behind h c.props → first ≡ first_number first_one n kind t.value
     → f ≡ first_at first_one n t.name kind d.dims t.value → kind ≡ used_kind u → n ≡ behind h c.props → s ≡ spec.declarator first_one h c r u t
-declarator_is h c r u t s d ds n first f kind is_s is_d is_ds is_first is_f is_kind is_n = rw (is_s, is_f, is_first, is_d, is_ds, is_kind, is_n) refl
+declarator_is h c r u t s d ds m n first f kind is_s is_d is_ds is_m is_first is_f is_kind is_n = rw (is_s, is_f, is_first, is_d, is_ds, is_m, is_kind, is_n) refl
 
 pub declarators_more : (h : Head) (r : Rand) (u : Used) (c d whole : Known) (t : DeclaratorTree) (ts : List DeclaratorTree)
     → d ≡ spec.declarator first_one h c r u t → spec.declarators first_one h c r u (t ∷ ts) ≡ whole → spec.declarators first_one h d r u ts ≡ whole

@@ -31,6 +31,6 @@ pub class_added : (text : ℕ → List ℕ) (gs hs : List GlobalName) (cs ds : L
     → hs ≡ and_name gs q (global.OfClass c) → MembersFit (declaring text gs cs) → MembersFit (declaring text hs ds)
 class_added text gs hs cs ds q c e m = record { globals = subst Fits (sym e) (named_fits gs q (global.OfClass c) m.globals tt) }
 
-pub class_inside : (text : ℕ → List ℕ) (gs hs : List GlobalName) (cs ds : List ClassName) (later : List (List ℕ)) (ps : List PropName) (q : List ℕ) (c : ℕ)
-    → hs ≡ and_name gs q (global.OfClass c) → MembersFit (declaring text gs cs) → MembersFit (in_class text hs ds later ps)
-class_inside text gs hs cs ds later ps q c e m = record { globals = subst Fits (sym e) (named_fits gs q (global.OfClass c) m.globals tt) }
+pub inside_fits : (text : ℕ → List ℕ) (gs : List GlobalName) (cs ds : List ClassName) (later : List (List ℕ)) (ps : List PropName)
+    → MembersFit (declaring text gs cs) → MembersFit (in_class text gs ds later ps)
+inside_fits text gs cs ds later ps m = record { globals = m.globals }

@@ -127,6 +127,15 @@ class_head s c = record {
   names = record (with_global s.names c.name (global.OfClass (length s.names.classes))) { later = own_properties s.names.text [] c.items };
 }
 
+-- of a class whose name stands already, and whose base this is
+abbrev pub head_inside : {F : Type 0} → GlobalsElab F → Option ℕ → ClassTree → Head
+head_inside s base c = record {
+  number = length s.names.classes;
+  base = base;
+  enums = s.enums;
+  names = record s.names { later = own_properties s.names.text [] c.items };
+}
+
 -- its blocks take the place of inherited ones of their names (18.5.2)
 abbrev pub class_name : {F : Type 0} → List ClassName → Option ℕ → List ℕ → ClassElab F → ClassName
 class_name cs base q e = record {

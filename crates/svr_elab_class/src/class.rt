@@ -1,10 +1,11 @@
 // Declarations of classes (IEEE 1800-2017, clause 8).
 
-ghost use Rattle.std.specs.Prelude.{◌≡◌, ◌<◌, ◌^◌, ◌+◌, ◌∷◌, ◌++◌, ℕ, List, IfOk, if◌then◌else◌, map, length};
+ghost use Rattle.std.specs.Prelude.{◌≡◌, ◌<◌, ◌^◌, ◌+◌, ◌∷◌, ◌++◌, [], ℕ, List, IfOk, if◌then◌else◌, map, length};
 ghost use Rattle.std.specs.List.{list_any};
 ghost use Rattle.svr_token.specs.Names.{names_of};
 ghost use Rattle.svr_tree.specs.DeclTree.{class_item_tree, class_tree};
 ghost use Rattle.svr_elab_fault.specs.Refusals.{first_one};
+ghost use Rattle.svr_elab_names.specs.declared.Global.TheVariants as global;
 ghost use Rattle.svr_elab_names.specs.Names as names_spec;
 ghost use Rattle.svr_elab_names.specs.Names.{is_same};
 ghost use Rattle.svr_elab_names.specs.Tables.{global_of, prop_of, class_of, bytes_of};
@@ -21,7 +22,9 @@ use crate::property::class_items;
 use indexmap::{IndexMap, IndexSet};
 use sqlite_items::Items;
 use std::alloc::Global as Heap;
+use svr_elab_expr::beside;
 use svr_elab_fault::{Fault, earlier, when};
+use svr_elab_form::pushed;
 use svr_elab_names::{ClassNames, Global, PropEntry};
 use svr_elab_type::{Globals, NoNames, and_name, double};
 use svr_refusal::Refusal;
@@ -244,11 +247,13 @@ fn class_names<'a>(
 ) -> Result<ClassNames<'a>, NoMemory>
     ensures { IfOk result (λ c. class_of c ≡ spec.class_name (map class_of classes.now) base name.now (class_part part.entry)) }
 {
-    let blocks = all_blocks(alloc, &part.blocks, classes, base)?;
+    let blocks = all_blocks(alloc, &part.blocks, classes, base);
+    drop((part.own, part.blocks));
+    let (props, blocks) = beside(part.props, blocks)?;
     Ok(ClassNames {
         name,
         base,
-        props: part.props,
+        props,
         inherited: count_inherited(classes, base),
         blocks,
     })
@@ -277,6 +282,82 @@ fn class_body<'a>(
     Ok(class_items(alloc, head, start, items)?)
 }
 
+/// With the name of one more class, which stands for the number behind all classes.
+fn with_class_name<'a>(globals: Globals<'a>, name: &'a [u8]) -> Result<Globals<'a>, NoMemory>
+    requires { length globals.classes < 2 ^ 32 }
+    ensures names { IfOk result (λ s. map global_of s.names.entries ≡ types.and_name (map global_of globals.entry.names.entries) name.now (global.OfClass (length (map class_of globals.entry.classes)))) }
+    ensures classes { IfOk result (λ s. s.classes ≡ globals.entry.classes) }
+    ensures enums { IfOk result (λ s. s.enums ≡ globals.entry.enums) }
+    ensures fault { IfOk result (λ s. s.fault ≡ globals.entry.fault) }
+{
+    let number = number_behind(globals.classes.as_slice());
+    let names = and_name(globals.names, name, Global::OfClass(number));
+    let (classes, (enums, names)) = beside(globals.classes, beside(globals.enums, names))?;
+    Ok(Globals {
+        names,
+        classes,
+        enums,
+        fault: globals.fault,
+    })
+}
+
+/// What is known of a class that is named already, after all of its items.
+fn class_inside<'a>(
+    alloc: Heap,
+    names: &Names<'a>,
+    none: &NoNames<'a>,
+    globals: &Globals<'a>,
+    base: Option<u32>,
+    decl: &ClassDecl,
+) -> Result<ClassPart<'a>, NoMemory>
+    requires none { AreEmpty none.now }
+    requires classes { length globals.now.classes < 2 ^ 32 }
+    requires members { MembersFit (types.declaring (names_of names.now) (map global_of globals.now.names.entries) (map class_of globals.now.classes)) }
+    requires fits { ClassItemsFit 0 (class_tree decl.now).items }
+    ensures { IfOk result (λ p. class_part p ≡ spec.class_body first_one (spec.head_inside (globals_part (names_of names.now) globals.now) base (class_tree decl.now)) (class_tree decl.now).items) }
+{
+    let items = decl.items.as_slice();
+    let later = own_properties(names, IndexSet::new(alloc), items)?;
+    let head = ClassHead {
+        number: number_behind(globals.classes.as_slice()),
+        base,
+        enums: globals.enums.as_slice(),
+        names: *names,
+        globals: &globals.names,
+        classes: globals.classes.as_slice(),
+        later: &later,
+        none,
+    };
+    Ok(class_body(alloc, &head, items)?)
+}
+
+/// With one more class behind the others, by what is known of its items.
+fn with_class<'a>(
+    alloc: Heap,
+    globals: Globals<'a>,
+    base: Option<u32>,
+    name: &'a [u8],
+    part: ClassPart<'a>,
+    fault: Option<Fault>,
+) -> Result<Globals<'a>, NoMemory>
+    ensures names { IfOk result (λ s. map global_of s.names.entries ≡ map global_of globals.entry.names.entries) }
+    ensures classes { IfOk result (λ s. map class_of s.classes ≡ map class_of globals.entry.classes ++ spec.class_name (map class_of globals.entry.classes) base name.now (class_part part.entry) ∷ []) }
+    ensures enums { IfOk result (λ s. s.enums ≡ globals.entry.enums) }
+    ensures fault { IfOk result (λ s. s.fault ≡ fault) }
+    ensures count { IfOk result (λ s. length s.classes ≡ length globals.entry.classes + 1) }
+{
+    let class = class_names(alloc, globals.classes.as_slice(), base, name, part);
+    let (globals, class) = beside(globals, class)?;
+    let classes = pushed(globals.classes, class);
+    let (names, (enums, classes)) = beside(globals.names, beside(globals.enums, classes))?;
+    Ok(Globals {
+        names,
+        classes,
+        enums,
+        fault,
+    })
+}
+
 /// One more class. `names`: what the tokens spell; `none`: what no declaration can name.
 pub fn class_decl<'a>(
     alloc: Heap,
@@ -295,34 +376,13 @@ pub fn class_decl<'a>(
     ensures count { IfOk result (λ s. length s.classes ≡ length globals.entry.classes + 1) }
 {
     let spelled = names.name(decl.name);
-    let number = number_behind(globals.classes.as_slice());
     let base = base_at(names, &globals.names, decl.base);
     let base_fault = base_fault(names, &globals.names, decl.base);
     let twice = double(&globals.names, spelled, decl.name);
-    let later = own_properties(names, IndexSet::new(alloc), decl.items.as_slice())?;
-    let table = and_name(globals.names, spelled, Global::OfClass(number))?;
-    let mut classes = globals.classes;
-    let part = {
-        let head = ClassHead {
-            number,
-            base,
-            enums: globals.enums.as_slice(),
-            names: *names,
-            globals: &table,
-            classes: classes.as_slice(),
-            later: &later,
-            none: &*none,
-        };
-        class_body(alloc, &head, decl.items.as_slice())?
-    };
+    let globals = with_class_name(globals, spelled)?;
+    let part = class_inside(alloc, names, none, &globals, base, decl);
+    let (globals, part) = beside(globals, part)?;
     let own = earlier(part.fault, label_fault(names, decl.name, decl.label));
     let fault = earlier(globals.fault, earlier(base_fault, earlier(twice, own)));
-    let class = class_names(alloc, classes.as_slice(), base, spelled, part)?;
-    classes.push(class)?;
-    Ok(Globals {
-        names: table,
-        classes,
-        enums: globals.enums,
-        fault,
-    })
+    Ok(with_class(alloc, globals, base, spelled, part, fault)?)
 }

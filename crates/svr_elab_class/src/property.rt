@@ -22,6 +22,7 @@ use svr_elab_decl::{
     ARRAY_LIMIT, Before, DimsPart, InitialPart, Used, UsedPart, data_type, dims_of, initial_value,
     is_wide_cycle, property_fault, property_of,
 };
+use svr_elab_expr::{beside, both};
 use svr_elab_fault::{Fault, earlier, when};
 use svr_elab_names::{Dims, PropEntry, Property};
 use svr_limits::PROPERTY_LIMIT;
@@ -100,11 +101,14 @@ fn and_property<'a>(
     }
     let number = number_behind(part.props.len());
     let property = property_of(number, head.number, rand, used.kind(), dims.dims);
+    let props = and_prop(part.props, spelled, property, first.number);
+    let names = both(props, with_name(part.own, spelled));
+    let (blocks, (props, own)) = beside(part.blocks, names)?;
     Ok(ClassPart {
-        props: and_prop(part.props, spelled, property, first.number)?,
+        props,
         arrays: and_array(part.arrays, dims.dims),
-        own: with_name(part.own, spelled)?,
-        blocks: part.blocks,
+        own,
+        blocks,
         fault,
     })
 }
@@ -123,19 +127,22 @@ fn declarator<'a>(
     requires fits { DeclaratorFits 0 (declarator_tree decl.now) }
     ensures { IfOk result (λ p. class_part p ≡ spec.declarator first_one (head_of head.now) (class_part part.entry) rand (used_of used) (declarator_tree decl.now)) }
 {
-    let (dims, first) = {
-        let space = head.behind(&part.props);
-        let dims = dims_of(alloc, decl.name, decl.dims.as_slice(), &space)?;
-        let first = initial_value(
-            alloc,
-            decl.name,
-            used.kind(),
-            dims.dims,
-            &decl.value,
-            &space,
-        )?;
-        (dims, first)
-    };
+    let dims = dims_of(
+        alloc,
+        decl.name,
+        decl.dims.as_slice(),
+        &head.behind(&part.props),
+    );
+    let (part, dims) = beside(part, dims)?;
+    let first = initial_value(
+        alloc,
+        decl.name,
+        used.kind(),
+        dims.dims,
+        &decl.value,
+        &head.behind(&part.props),
+    );
+    let (part, first) = beside(part, first)?;
     Ok(and_property(head, part, decl.name, rand, used, first, dims)?)
 }
 
@@ -208,11 +215,16 @@ fn with_block<'a>(
     if is_among(&part.own, spelled) {
         return Ok(and_fault(part, when(true, name, Refusal::DoubleName)));
     }
+    let names = both(
+        with_name(part.own, spelled),
+        with_name(part.blocks, spelled),
+    );
+    let (props, (own, blocks)) = beside(part.props, names)?;
     Ok(ClassPart {
-        props: part.props,
+        props,
         arrays: part.arrays,
-        own: with_name(part.own, spelled)?,
-        blocks: with_name(part.blocks, spelled)?,
+        own,
+        blocks,
         fault: part.fault,
     })
 }

@@ -9,6 +9,7 @@ ghost use Rattle.svr_elab_part.specs.Elab as spec;
 ghost use Rattle.svr_elab_part.specs.Seen.{part_of, parts_of, range_part_of, ranges_part_of, bound_part_of};
 ghost use Rattle.svr_elab_part.specs.Fits.{MembersFit, LiteralsFit, AllFit, RangesFit, RangeFits, BoundFits, LoopsFit, AllLoopsFit, RangesLoopsFit, RangeLoopsFit, BoundLoopsFit};
 
+use crate::held::{beside, both};
 use std::alloc::Global;
 use svr_elab_form::{
     and_part, and_range, binary_part, choice_part, copies_part, dollar_bound, index_part,
@@ -211,14 +212,12 @@ fn index(
     requires literals { LiteralsFit (tree.bit_select at (expr_tree base.now) (expr_tree first.now) call) }
     ensures { IfOk result (λ p. part_of p ≡ spec.elab first_one (space_of names.now) (tree.bit_select at (expr_tree base.now) (expr_tree first.now) call)) }
 {
-    let base = elab(alloc, base, names)?;
-    let index = value(alloc, first, names)?;
+    let (base, index) = both(elab(alloc, base, names), value(alloc, first, names))?;
     Ok(with_parens(call, index_part(alloc, at, base, index)?))
 }
 
 /// A part-select.
 #[cycle(elab)]
-#[tactic(auto, using(svr_elab_part::proofs::Valued::has_value))]
 fn slice(
     alloc: Global,
     at: u32,
@@ -234,9 +233,8 @@ fn slice(
     requires literals { LiteralsFit (tree.part_select at (expr_tree base.now) (expr_tree first.now) (expr_tree last.now) call) }
     ensures { IfOk result (λ p. part_of p ≡ spec.elab first_one (space_of names.now) (tree.part_select at (expr_tree base.now) (expr_tree first.now) (expr_tree last.now) call)) }
 {
-    let base = value(alloc, base, names)?;
-    let first = value(alloc, first, names)?;
-    let last = value(alloc, last, names)?;
+    let known = both(value(alloc, base, names), value(alloc, first, names));
+    let ((base, first), last) = both(known, value(alloc, last, names))?;
     Ok(with_parens(call, slice_part(alloc, at, base, first, last)?))
 }
 
@@ -256,8 +254,7 @@ fn binary(
     requires literals { LiteralsFit (tree.binary at op (expr_tree left.now) (expr_tree right.now)) }
     ensures { IfOk result (λ p. part_of p ≡ spec.elab first_one (space_of names.now) (tree.binary at op (expr_tree left.now) (expr_tree right.now))) }
 {
-    let left = value(alloc, left, names)?;
-    let right = value(alloc, right, names)?;
+    let (left, right) = both(value(alloc, left, names), value(alloc, right, names))?;
     Ok(binary_part(alloc, at, op, left, right)?)
 }
 
@@ -277,9 +274,8 @@ fn choice(
     requires literals { LiteralsFit (tree.choice at (expr_tree test.now) (expr_tree yes.now) (expr_tree no.now)) }
     ensures { IfOk result (λ p. part_of p ≡ spec.elab first_one (space_of names.now) (tree.choice at (expr_tree test.now) (expr_tree yes.now) (expr_tree no.now))) }
 {
-    let test = value(alloc, test, names)?;
-    let yes = value(alloc, yes, names)?;
-    let no = value(alloc, no, names)?;
+    let known = both(value(alloc, test, names), value(alloc, yes, names));
+    let ((test, yes), no) = both(known, value(alloc, no, names))?;
     Ok(choice_part(alloc, at, test, yes, no)?)
 }
 
@@ -298,14 +294,14 @@ fn membership(
     requires literals { LiteralsFit (tree.inside at (expr_tree left.now) (range_trees set.now)) }
     ensures { IfOk result (λ p. part_of p ≡ spec.elab first_one (space_of names.now) (tree.inside at (expr_tree left.now) (range_trees set.now))) }
 {
-    let left = value(alloc, left, names)?;
-    let set = ranges(alloc, set, names)?;
+    let left = value(alloc, left, names);
+    let set = ranges(alloc, set, names);
+    let (left, set) = both(left, set)?;
     Ok(inside_part(alloc, at, left, set)?)
 }
 
 /// A replication.
 #[cycle(elab)]
-#[tactic(auto, using(svr_elab_part::proofs::Valued::has_value))]
 fn replication(
     alloc: Global,
     at: u32,
@@ -319,8 +315,7 @@ fn replication(
     requires literals { LiteralsFit (tree.copies at (expr_tree count.now) (expr_trees list.now)) }
     ensures { IfOk result (λ p. part_of p ≡ spec.elab first_one (space_of names.now) (tree.copies at (expr_tree count.now) (expr_trees list.now))) }
 {
-    let count = value(alloc, count, names)?;
-    let list = parts(alloc, list, names)?;
+    let (count, list) = both(value(alloc, count, names), parts(alloc, list, names))?;
     Ok(copies_part(alloc, at, count, list)?)
 }
 
@@ -342,7 +337,8 @@ fn reduction(
     ensures { IfOk result (λ p. part_of p ≡ spec.elab first_one (space_of names.now) (tree.reduce at (expr_tree array.now) fold item (expr_tree body.now))) }
 {
     let array = elab(alloc, array, names)?;
-    let body = reduced(alloc, &array, item, body, names)?;
+    let body = reduced(alloc, &array, item, body, names);
+    let (array, body) = beside(array, body)?;
     Ok(reduce_part(alloc, at, fold, sole(array), body)?)
 }
 
@@ -428,8 +424,7 @@ pub fn range(alloc: Global, r: &Range, names: &NameSpace<'_, '_>) -> Result<Rang
     match r {
         Range::One(e) => Ok(value_range(sole(elab(alloc, e, names)?))),
         Range::Span(low, high) => {
-            let low = bound(alloc, low, names)?;
-            let high = bound(alloc, high, names)?;
+            let (low, high) = both(bound(alloc, low, names), bound(alloc, high, names))?;
             Ok(span_range(low, high))
         }
     }

@@ -4,5 +4,7 @@
 #![tactic(auto)]
 
 mod expr;
+mod held;
 
 pub use expr::{bound, elab, range, ranges, value};
+pub use held::{beside, both};

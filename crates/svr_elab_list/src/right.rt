@@ -17,7 +17,7 @@ ghost use Rattle.svr_elab_stmt.specs.Fits.{CallFits, RightFits, ValuesFit, value
 
 use crate::call::randomized;
 use std::alloc::Global;
-use svr_elab_expr::elab;
+use svr_elab_expr::{beside, elab};
 use svr_elab_names::NameSpace;
 use svr_elab_part::{Form, Part};
 use svr_elab_stmt::{StmtPart, given, made_new, patterned, resized, values};
@@ -39,7 +39,7 @@ fn given_at(
     ensures value { IfOk result (λ s. stmt_part s ≡ spec.given first_one (part_of target) (elab_spec.elab first_one (space_of names.now) (expr_tree e.now))) }
     ensures once { IfOk result (λ s. s.count ≡ 1) }
 {
-    let right = elab(alloc, e, names)?;
+    let (target, right) = beside(target, elab(alloc, e, names))?;
     Ok(given(target, right))
 }
 
@@ -56,7 +56,7 @@ fn resized_at(
     ensures value { IfOk result (λ s. stmt_part s ≡ spec.resized first_one (part_of target) (types.constant_at first_one (space_of names.now) (expr_tree size.now))) }
     ensures once { IfOk result (λ s. s.count ≡ 1) }
 {
-    let right = constant_at(alloc, size, names)?;
+    let (target, right) = beside(target, constant_at(alloc, size, names))?;
     Ok(resized(target, right))
 }
 
@@ -75,7 +75,8 @@ fn patterned_at(
     ensures value { IfOk result (λ s. stmt_part s ≡ spec.patterned first_one (part_of target) at (spec.values first_one (space_of names.now) target.form.members (spec.no_values first_one) (expr_trees list.now))) }
     ensures once { IfOk result (λ s. s.count ≡ 1) }
 {
-    let right = values(alloc, list, target.form.members, names)?;
+    let right = values(alloc, list, target.form.members, names);
+    let (target, right) = beside(target, right)?;
     Ok(patterned(target, at, right))
 }
 
@@ -100,7 +101,9 @@ fn answered(
     ensures once { IfOk result (λ s. s.count ≡ 1) }
 {
     let refused = answer_fault(&target);
-    let right = randomized(alloc, taker(target.form), call, names)?;
+    let form = target.form;
+    drop(target);
+    let right = randomized(alloc, taker(form), call, names)?;
     Ok(right.behind(refused))
 }
 

@@ -21,6 +21,7 @@ use crate::right::assign;
 use indexmap::IndexSet;
 use sqlite_items::Items;
 use std::alloc::Global;
+use svr_elab_expr::both;
 use svr_elab_names::NameSpace;
 use svr_elab_stmt::{StmtPart, StmtsPart, and_stmt, grouped, moded, no_stmts, repeated};
 use svr_elab_target::{and_made, with_made};
@@ -119,8 +120,8 @@ pub fn and_next(
     ensures most { IfOk result (λ p. p.count ≤ 100001) }
     ensures keys { IfOk result (λ p. made.new.keys ≡ spec.and_made made.old.keys next.makes) }
 {
-    and_made(made, next.makes)?;
-    let all = and_stmt(part, next)?;
+    let grown = and_made(made, next.makes);
+    let (all, _) = both(and_stmt(part, next), grown)?;
     Ok(all)
 }
 

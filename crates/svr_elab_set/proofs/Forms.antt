@@ -1,5 +1,6 @@
 -- What the walk needs of each form of item, by its parts.
 use Rattle.std.proofs.Common.{◌≡◌, ℕ, Bool, List, map, Option, Some, None, ap, ◌∙◌}
+use Rattle.svr_operator.specs.declared.Share.{Share}
 use Rattle.svr_tree.specs.declared.Dist.{Dist}
 use Rattle.svr_tree.specs.declared.DistItem.{DistItem}
 use Rattle.svr_tree.specs.ExprTree.{ExprTree}
@@ -10,7 +11,7 @@ use Rattle.svr_elab_fault.specs.Refusals.{first_one}
 use Rattle.svr_elab_names.specs.declared.LoopName.{LoopName}
 use Rattle.svr_elab_names.specs.Names.{Space, with_loops}
 use Rattle.svr_elab_names.specs.Tables.{loop_of}
-use Rattle.svr_elab_part.specs.Elab.{Elab, elab, value, sole}
+use Rattle.svr_elab_part.specs.Elab.{Elab, RangeElab, elab, value, sole}
 use Rattle.svr_elab_item.specs.declared.Around.{Around}
 use Rattle.svr_elab_item.specs.Items as spec
 use Rattle.svr_elab_item.specs.Items.{ItemElab, ItemsElab, ElseElab, DistElab}
@@ -55,14 +56,24 @@ branch_else_is n a u r x y w z test met unmet h p q i j k =
 pub looped : (n m : Space) (ls ks : List LoopName) → ls ≡ ks → with_loops n (map loop_of ks) ≡ m → with_loops n (map loop_of ls) ≡ m
 looped n m ls ks e h = ap (λ (ls : List LoopName). with_loops n (map loop_of ls)) e ∙ h
 
-pub foreach_is : (n i j : Space) (a o : Around) (vs : List ℕ) (r : ItemElab (Option Fault)) (x s : Elab (Option Fault)) (b : ItemsElab (Option Fault)) (array : ExprTree) (body : SetTree)
-    → r ≡ spec.foreach_item first_one s vs b → s ≡ sole first_one x → x ≡ elab first_one n array → o ≡ spec.over a x → i ≡ j → j ≡ spec.in_body n vs → b ≡ spec.items_in first_one i o body
+pub in_loops_is : (n i j : Space) (a : Around) (vs : List ℕ) (b : ItemsElab (Option Fault)) (body : SetTree)
+    → b ≡ spec.items_in first_one i a body → i ≡ j → j ≡ spec.in_body n vs → b ≡ spec.items_in first_one (spec.in_body n vs) a body
+in_loops_is n i j a vs b body h e f = h ∙ ap (λ (i : Space). spec.items_in first_one i a body) (e ∙ f)
+
+pub foreach_is : (n : Space) (a o : Around) (vs : List ℕ) (r : ItemElab (Option Fault)) (x s : Elab (Option Fault)) (b : ItemsElab (Option Fault)) (array : ExprTree) (body : SetTree)
+    → r ≡ spec.foreach_item first_one s vs b → s ≡ sole first_one x → x ≡ elab first_one n array → o ≡ spec.over a x → b ≡ spec.items_in first_one (spec.in_body n vs) o body
     → r ≡ spec.item first_one n a (tree.foreach 0 array vs body)
-foreach_is n i j a o vs r x s b array body h p q k e f m =
+foreach_is n a o vs r x s b array body h p q k m =
     h ∙ ap (λ (s : Elab (Option Fault)). spec.foreach_item first_one s vs b) p
     ∙ ap (λ (b : ItemsElab (Option Fault)). spec.foreach_item first_one (sole first_one x) vs b)
-    (m ∙ ap (λ (i : Space). spec.items_in first_one i o body) (e ∙ f) ∙ ap (λ (o : Around). spec.items_in first_one (spec.in_body n vs) o body) k)
+    (m ∙ ap (λ (o : Around). spec.items_in first_one (spec.in_body n vs) o body) k)
     ∙ ap (λ (x : Elab (Option Fault)). spec.foreach_item first_one (sole first_one x) vs (spec.items_in first_one (spec.in_body n vs) (spec.over a x) body)) q
 
 pub disable_is : (a : Around) (r : ItemElab (Option Fault)) (x y : Elab (Option Fault)) → r ≡ spec.disable_item first_one a x → x ≡ y → r ≡ spec.disable_item first_one a y
 disable_is a r x y h p = h ∙ ap (λ (x : Elab (Option Fault)). spec.disable_item first_one a x) p
+
+pub and_dist_is : (r d e : DistElab (Option Fault)) (x y : RangeElab (Option Fault)) (w v : Option (Share × Elab (Option Fault)))
+    → r ≡ spec.and_dist first_one d x w → d ≡ e → x ≡ y → w ≡ v → r ≡ spec.and_dist first_one e y v
+and_dist_is r d e x y w v h p q i =
+    h ∙ ap (λ (d : DistElab (Option Fault)). spec.and_dist first_one d x w) p ∙ ap (λ (x : RangeElab (Option Fault)). spec.and_dist first_one e x w) q
+    ∙ ap (λ (w : Option (Share × Elab (Option Fault))). spec.and_dist first_one e y w) i

@@ -13,7 +13,7 @@ ghost use Rattle.svr_elab_item.specs.Seen.{dist_part, weight_part};
 ghost use Rattle.svr_elab_item.specs.Fits.{WeightFits, WeightLoopsFit, DistItemsFit, DistItemsLoopsFit};
 
 use std::alloc::Global;
-use svr_elab_expr::{bound, value};
+use svr_elab_expr::{beside, both, bound, value};
 use svr_elab_form::{span_range, value_range};
 use svr_elab_item::{DistPart, and_dist};
 use svr_elab_names::NameSpace;
@@ -35,8 +35,7 @@ fn dist_span(
     requires literals { RangeFits (raw.span (bound_tree low.now) (bound_tree high.now)) }
     ensures { IfOk result (λ r. range_part_of r ≡ spec.dist_range first_one (space_of names.now) (raw.span (bound_tree low.now) (bound_tree high.now))) }
 {
-    let low = bound(alloc, low, names)?;
-    let high = bound(alloc, high, names)?;
+    let (low, high) = both(bound(alloc, low, names), bound(alloc, high, names))?;
     Ok(span_range(low, high))
 }
 
@@ -75,6 +74,27 @@ fn weight_at(
     }
 }
 
+/// One more member of a distribution.
+fn with_member(
+    alloc: Global,
+    dist: DistPart,
+    member: &DistItem,
+    names: &NameSpace<'_, '_>,
+) -> Result<DistPart, NoMemory>
+    requires vars { length names.now.vars.now.entries < 2 ^ 32 }
+    requires loops { RangeLoopsFit (length names.now.loops.now) (range_tree member.now.range) }
+    requires weight_loops { WeightLoopsFit (length names.now.loops.now) (option_map weight_tree member.now.weight) }
+    requires members { MembersFit (space_of names.now) }
+    requires literals { RangeFits (range_tree member.now.range) }
+    requires weight_literals { WeightFits (option_map weight_tree member.now.weight) }
+    ensures { IfOk result (λ d. dist_part d ≡ spec.and_dist first_one (dist_part dist) (spec.dist_range first_one (space_of names.now) (range_tree member.now.range)) (spec.weight_at first_one (space_of names.now) (option_map weight_tree member.now.weight))) }
+{
+    let range = dist_range(alloc, &member.range, names);
+    let known = both(range, weight_at(alloc, &member.weight, names));
+    let (dist, (range, weight)) = beside(dist, known)?;
+    Ok(and_dist(dist, range, weight)?)
+}
+
 /// The members of a distribution.
 pub(crate) fn dist_items(
     alloc: Global,
@@ -89,9 +109,7 @@ pub(crate) fn dist_items(
 {
     let mut dist = DistPart::none(alloc);
     for member in list {
-        let range = dist_range(alloc, &member.range, names)?;
-        let weight = weight_at(alloc, &member.weight, names)?;
-        dist = and_dist(dist, range, weight)?;
+        dist = with_member(alloc, dist, member, names)?;
     }
     Ok(dist)
 }

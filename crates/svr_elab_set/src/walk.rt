@@ -1,6 +1,6 @@
 // Items, in one walk.
 
-ghost use Rattle.std.specs.Prelude.{◌≡◌, ◌<◌, ◌^◌, length, IfOk, Some, None, option_map};
+ghost use Rattle.std.specs.Prelude.{◌≡◌, ◌<◌, ◌+◌, ◌^◌, length, IfOk, Some, None, option_map};
 ghost use Rattle.svr_tree.specs.ExprTree.{expr_tree, expr_trees};
 ghost use Rattle.svr_tree.specs.ItemTree as tree;
 ghost use Rattle.svr_tree.specs.ItemTree.{item_tree, item_trees, set_tree, dist_tree};
@@ -15,7 +15,7 @@ ghost use Rattle.svr_elab_item.specs.Fits.{ItemFits, ItemsFit, SetFits, ItemLoop
 
 use crate::dist::dist_items;
 use std::alloc::Global;
-use svr_elab_expr::{elab, value};
+use svr_elab_expr::{beside, both, elab, value};
 use svr_elab_form::sole;
 use svr_elab_item::{
     Around, ItemPart, ItemsPart, UniquePart, and_item, and_member, branch_item, disable_item,
@@ -61,8 +61,8 @@ fn dealt(
     requires literals { ItemFits (tree.plain at soft (expr_tree e.now) (Some (dist_tree dist.now))) }
     ensures { IfOk result (λ p. seen.item_part p ≡ spec.item first_one (space_of names.now) around (tree.plain at soft (expr_tree e.now) (Some (dist_tree dist.now)))) }
 {
-    let part = value(alloc, e, names)?;
-    let members = dist_items(alloc, dist.items.as_slice(), names)?;
+    let part = value(alloc, e, names);
+    let (part, members) = both(part, dist_items(alloc, dist.items.as_slice(), names))?;
     Ok(plain_item(soft, at, around, part, Some((dist.at, members))))
 }
 
@@ -199,7 +199,8 @@ fn implication(
     ensures { IfOk result (λ p. seen.item_part p ≡ spec.item first_one (space_of names.now) around (tree.implies 0 (expr_tree test.now) (set_tree body.now))) }
 {
     let test = value(alloc, test, names)?;
-    let body = set(alloc, body, names, around.under(&test))?;
+    let body = set(alloc, body, names, around.under(&test));
+    let (test, body) = beside(test, body)?;
     Ok(implies_item(test, body))
 }
 
@@ -219,7 +220,8 @@ fn branch(
     ensures { IfOk result (λ p. seen.item_part p ≡ spec.item first_one (space_of names.now) around (tree.branch 0 (expr_tree test.now) (set_tree yes.now) tree.no_else)) }
 {
     let test = value(alloc, test, names)?;
-    let yes = set(alloc, yes, names, around.under(&test))?;
+    let yes = set(alloc, yes, names, around.under(&test));
+    let (test, yes) = beside(test, yes)?;
     Ok(branch_item(test, yes, no_else()))
 }
 
@@ -241,14 +243,16 @@ fn branch_else(
 {
     let test = value(alloc, test, names)?;
     let around = around.under(&test);
-    let yes = set(alloc, yes, names, around)?;
-    let no = set(alloc, no, names, around)?;
+    let sets = both(
+        set(alloc, yes, names, around),
+        set(alloc, no, names, around),
+    );
+    let (test, (yes, no)) = beside(test, sets)?;
     Ok(branch_item(test, yes, else_part(no)))
 }
 
 /// `foreach (array[vars]) body`
 #[cycle(item)]
-#[tactic(auto, using(svr_elab_expr::proofs::Walk::members_inside, crate::proofs::Loops::loops_inside))]
 fn foreach(
     alloc: Global,
     body: &Set,
@@ -264,10 +268,30 @@ fn foreach(
     ensures { IfOk result (λ p. seen.item_part p ≡ spec.item first_one (space_of names.now) around (tree.foreach 0 (expr_tree array.now) vars.now (set_tree body.now))) }
 {
     let array = elab(alloc, array, names)?;
+    let body = in_loops(alloc, body, vars, names, around.over(&array));
+    let (array, body) = beside(array, body)?;
+    Ok(foreach_item(sole(array), vars, body))
+}
+
+/// A set inside loops, whose variables have these names.
+#[cycle(item)]
+#[tactic(auto, using(svr_elab_expr::proofs::Walk::members_inside, crate::proofs::Loops::loops_inside))]
+fn in_loops(
+    alloc: Global,
+    body: &Set,
+    vars: &[u32],
+    names: &NameSpace<'_, '_>,
+    around: Around,
+) -> Result<ItemsPart, NoMemory>
+    requires vars { length names.now.vars.now.entries < 2 ^ 32 }
+    requires loops { SetLoopsFit (length names.now.loops.now + length vars.now) (set_tree body.now) }
+    requires members { MembersFit (space_of names.now) }
+    requires literals { SetFits (set_tree body.now) }
+    ensures { IfOk result (λ p. seen.items_part p ≡ spec.items_in first_one (spec.in_body (space_of names.now) vars.now) around (set_tree body.now)) }
+{
     let loops = in_body(alloc, names, vars)?;
     let inner = names.with_loops(loops.as_slice());
-    let body = set(alloc, body, &inner, around.over(&array))?;
-    Ok(foreach_item(sole(array), vars, body))
+    Ok(set(alloc, body, &inner, around)?)
 }
 
 /// What is known of the items of a set.

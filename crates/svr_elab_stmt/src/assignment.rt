@@ -39,9 +39,11 @@ fn copied(target: Part, value: Part) -> StmtPart
     ensures once { result.count ≡ 1 }
 {
     let left_out = when(true, value.form.name, Refusal::LeftOut);
+    let fault = earlier(target.fault, earlier(value.fault, left_out));
+    drop((target, value));
     StmtPart {
         tree: None,
-        fault: earlier(target.fault, earlier(value.fault, left_out)),
+        fault,
         makes: None,
         count: 1,
     }
@@ -105,10 +107,11 @@ pub fn made_new(target: Part) -> StmtPart
     ensures once { result.count ≡ 1 }
 {
     let named = Target::of(target.form);
-    let wrong = object_fault(target.form);
+    let fault = earlier(target.fault, object_fault(target.form));
+    drop(target);
     StmtPart {
         tree: make(named),
-        fault: earlier(target.fault, wrong),
+        fault,
         makes: named.object(),
         count: 1,
     }
@@ -140,9 +143,11 @@ pub fn resized(target: Part, size: Constant) -> StmtPart
     let named = Target::of(target.form);
     let wrong = resizable_fault(target.form);
     let bad = size_fault(size);
+    let fault = earlier(target.fault, earlier(size.fault, earlier(wrong, bad)));
+    drop(target);
     StmtPart {
         tree: resize(named, size.number),
-        fault: earlier(target.fault, earlier(size.fault, earlier(wrong, bad))),
+        fault,
         makes: None,
         count: 1,
     }
@@ -203,9 +208,11 @@ pub fn patterned(target: Part, at: u32, values: ValuesPart) -> StmtPart
 {
     let named = Target::of(target.form);
     let own = pattern_fault(target.form, at, values.many);
+    let fault = earlier(target.fault, earlier(values.fault, own));
+    drop(target);
     StmtPart {
         tree: pattern(named, values.trees),
-        fault: earlier(target.fault, earlier(values.fault, own)),
+        fault,
         makes: None,
         count: 1,
     }

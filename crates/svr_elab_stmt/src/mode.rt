@@ -77,10 +77,11 @@ fn mode_on_none(made: &IndexSet<u32>, first: u32, on: Part) -> StmtPart
     ensures value { stmt_part result ≡ spec.one_stmt first_one None (first_one.both (spec.use_faults first_one made.now.keys first None) (part_of on).faults) }
     ensures once { result.count ≡ 1 }
 {
-    let unused = use_fault(made, first, None);
+    let fault = earlier(use_fault(made, first, None), on.fault);
+    drop(on);
     StmtPart {
         tree: None,
-        fault: earlier(unused, on.fault),
+        fault,
         makes: None,
         count: 1,
     }

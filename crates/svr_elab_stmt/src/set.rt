@@ -62,9 +62,15 @@ pub(crate) fn set(target: Target, place: Option<TExpr>, value: Option<TExpr>) ->
     ensures { option_map stmt_term result ≡ spec.set_tree target (option_map expr_term place) (option_map expr_term value) }
 {
     match target {
-        Target::Variable(variable) => set_variable(variable, value),
+        Target::Variable(variable) => {
+            drop(place);
+            set_variable(variable, value)
+        }
         Target::Place(object, property) => set_place(object, property.number, place, value),
-        Target::Nothing | Target::Object(_) | Target::Array(_, _) => None,
+        Target::Nothing | Target::Object(_) | Target::Array(_, _) => {
+            drop((place, value));
+            None
+        }
     }
 }
 

@@ -1,6 +1,6 @@
 -- A member, an enum and a type that are declared, put together of their parts.
-use Rattle.std.proofs.Common.{◌≡◌, ℕ, ◌+◌, ◌<◌, ℤ, pos, Bool, nat_le, List, [], ◌∷◌, ◌++◌, map, length, get_or, drop, Option, Some, option_map, refl, sym, ap, subst, ◌∙◌}
-use Rattle.std.proofs.lemmas.List.{at_drop_more}
+use Rattle.std.proofs.Common.{◌≡◌, ℕ, ◌+◌, ◌<◌, ◌≤◌, ℤ, pos, Bool, nat_le, List, [], ◌∷◌, ◌++◌, map, length, get_or, drop, Option, Some, option_map, refl, sym, ap, subst, ◌∙◌, arith}
+use Rattle.std.proofs.lemmas.List.{at_drop_more, length_push}
 use Rattle.svr_typed.specs.declared.NumType.{NumType}
 use Rattle.svr_typed.specs.declared.EnumMember.{EnumMember}
 use Rattle.svr_typed.specs.declared.EnumType.{EnumType}
@@ -66,6 +66,10 @@ begun n xs ms f = record { names = n; next = Some (pos 0); numbers = xs; members
 
 abbrev kept : List EnumType → ℕ → Known → NumType → Option Vector → Globals
 kept enums name p b k = spec.with_type first_one (record { names = p.names; enums = enums ++ (record { base = b; members = p.members }) ∷ []; faults = p.faults }) name k
+
+-- one more enum
+pub one_more : (es fs gs : List EnumType) (e : EnumType) → gs ≡ fs → fs ≡ es ++ e ∷ [] → length gs ≤ length es + 1
+one_more es fs gs e h k = omega (arith, ap length h, ap length k, length_push es e)
 
 -- an enum, by its members
 pub enum_is : (r : Globals) (text : ℕ → List ℕ) (cs ks : List ClassName) (n : ℕ) (enums more : List EnumType) (name : ℕ) (base kind : Option Vector) (b : NumType) (ms : List MemberTree)

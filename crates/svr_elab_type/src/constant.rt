@@ -52,7 +52,9 @@ pub fn constant_at(alloc: Global, e: &Expr, names: &NameSpace<'_, '_>) -> Result
     ensures high { IfOk result (λ c. IfSome c.number (λ n. n <ℤ pos (2 ^ 64))) }
 {
     let part = value(alloc, e, names)?;
-    Ok(constant_of(alloc, &part))
+    let number = constant_of(alloc, &part);
+    drop(part);
+    Ok(number)
 }
 
 /// The number of a bit, where the bound is one.

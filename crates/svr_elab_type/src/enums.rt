@@ -19,6 +19,7 @@ use crate::limit::MEMBER_LIMIT;
 use indexmap::{IndexMap, IndexSet};
 use sqlite_items::Items;
 use std::alloc::Global as Heap;
+use svr_elab_expr::{beside, both};
 use svr_elab_fault::{Fault, earlier, when};
 use svr_elab_names::{ClassNames, Global, NameSpace, Vector};
 use svr_refusal::Refusal;
@@ -181,11 +182,16 @@ fn and_member<'a>(
             when(many, name, Refusal::TooMany),
         ),
     );
+    let next = following(number.number, part.members.len());
+    let globals = and_name(part.globals, spelled, Global::OfMember(value, base));
+    let numbers = with_number(number.number, part.numbers);
+    let members = with_member(alloc, part.members, spelled, value);
+    let (globals, (numbers, members)) = both(globals, both(numbers, members))?;
     Ok(EnumPart {
-        globals: and_name(part.globals, spelled, Global::OfMember(value, base))?,
-        next: following(number.number, part.members.len()),
-        numbers: with_number(number.number, part.numbers)?,
-        members: with_member(alloc, part.members, spelled, value)?,
+        globals,
+        next,
+        numbers,
+        members,
         fault: earlier(part.fault, earlier(number.fault, own)),
     })
 }
@@ -233,11 +239,14 @@ pub fn enum_members<'s, 'a>(
 {
     let mut part = start;
     for member in list {
-        let number = {
-            let space = declaring(*names, &part.globals, &*classes, &*none);
-            member_number(alloc, part.next, &member.value, &space)?
-        };
-        part = and_member(alloc, names, base, member.name, part, number)?;
+        let number = member_number(
+            alloc,
+            part.next,
+            &member.value,
+            &declaring(*names, &part.globals, &*classes, &*none),
+        );
+        let (before, number) = beside(part, number)?;
+        part = and_member(alloc, names, base, member.name, before, number)?;
     }
     Ok(part)
 }

@@ -16,7 +16,9 @@ use crate::types::{TypePart, base_type, integer_type};
 use indexmap::{IndexMap, IndexSet};
 use sqlite_items::Items;
 use std::alloc::Global as Heap;
+use svr_elab_expr::beside;
 use svr_elab_fault::{Fault, earlier};
+use svr_elab_form::pushed;
 use svr_elab_names::{ClassNames, Global, Vector};
 use svr_token::Names;
 use svr_tree::{EnumDecl, IntegerType, MemberDecl, TypeDecl, TypeDefinition};
@@ -144,15 +146,18 @@ fn enum_type<'a>(
         kind,
         start,
         list,
-    )?;
-    let mut enums = globals.enums;
-    enums.push(EnumType {
+    );
+    let (classes, (enums, part)) = beside(globals.classes, beside(globals.enums, part))?;
+    drop(part.numbers);
+    let one = EnumType {
         base: enum_base(base.kind),
         members: part.members,
-    })?;
+    };
+    let enums = pushed(enums, one);
+    let (classes, (table, enums)) = beside(classes, beside(part.globals, enums))?;
     let globals = Globals {
-        names: part.globals,
-        classes: globals.classes,
+        names: table,
+        classes,
         enums,
         fault: part.fault,
     };
@@ -176,10 +181,12 @@ fn enum_decl<'a>(
     ensures enums { IfOk result (λ s. length s.enums ≤ length globals.entry.enums + 1) }
     ensures classes { IfOk result (λ s. s.classes ≡ globals.entry.classes) }
 {
-    let base = {
-        let space = declaring(*names, &globals.names, globals.classes.as_slice(), &*none);
-        base_type(alloc, &decl.base, &space)?
-    };
+    let base = base_type(
+        alloc,
+        &decl.base,
+        &declaring(*names, &globals.names, globals.classes.as_slice(), &*none),
+    );
+    let (globals, base) = beside(globals, base)?;
     Ok(enum_type(
         alloc,
         names,
@@ -207,10 +214,12 @@ fn integer_decl<'a>(
     ensures enums { IfOk result (λ s. s.enums ≡ globals.entry.enums) }
     ensures classes { IfOk result (λ s. s.classes ≡ globals.entry.classes) }
 {
-    let part = {
-        let space = declaring(*names, &globals.names, globals.classes.as_slice(), &*none);
-        integer_type(alloc, kind, &space)?
-    };
+    let part = integer_type(
+        alloc,
+        kind,
+        &declaring(*names, &globals.names, globals.classes.as_slice(), &*none),
+    );
+    let (globals, part) = beside(globals, part)?;
     Ok(plain_type(names, globals, name, part)?)
 }
 

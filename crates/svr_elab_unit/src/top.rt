@@ -17,6 +17,7 @@ ghost use Rattle.svr_elab_unit.specs.Fits.{AllStmtsFit, VarValuesFit, declared_i
 use crate::values::{ValuedPart, decls_valued};
 use indexmap::{IndexMap, IndexSet};
 use std::alloc::Global;
+use svr_elab_expr::beside;
 use svr_elab_fault::{earlier, when};
 use svr_elab_list::{and_next, stmt};
 use svr_elab_names::{NameSpace, VarStand};
@@ -95,8 +96,9 @@ fn tops(
 {
     let mut part = start;
     for each in list {
-        let next = stmt(alloc, each, names, made)?;
-        part = and_top(made, part, stmt_start(each), next)?;
+        let next = stmt(alloc, each, names, made);
+        let (before, next) = beside(part, next)?;
+        part = and_top(made, before, stmt_start(each), next)?;
     }
     Ok(part)
 }
@@ -166,6 +168,7 @@ fn run_behind(
     ensures { IfOk result (λ ss. stmts_part made.new.keys ss ≡ spec.run first_one (space_of names.now) stands.now (unit_tree unit.now)) }
 {
     let valued = unit_values(alloc, stands, unit, names, made)?;
+    drop(valued.vars);
     let all = tops(alloc, valued.stmts, unit.stmts.as_slice(), names, made)?;
     Ok(all)
 }

@@ -19,7 +19,7 @@ ghost use Rattle.svr_elab_unit.specs.Fits.{InitFits, InitsFit, VarValuesFit, dec
 use crate::vars::{and_var_name, stmt_space};
 use indexmap::{IndexMap, IndexSet};
 use std::alloc::Global;
-use svr_elab_expr::elab;
+use svr_elab_expr::{beside, elab};
 use svr_elab_form::path_part;
 use svr_elab_list::and_next;
 use svr_elab_names::{Found, Meaning, NameSpace, VarStand};
@@ -85,7 +85,7 @@ fn assigned(
     ensures value { IfOk result (λ s. stmt_part s ≡ stmts_spec.given first_one (part_of target) (elab_spec.elab first_one (space_of names.now) (expr_tree e.now))) }
     ensures once { IfOk result (λ s. s.count ≡ 1) }
 {
-    let right = elab(alloc, e, names)?;
+    let (target, right) = beside(target, elab(alloc, e, names))?;
     Ok(given(target, right))
 }
 
@@ -145,7 +145,8 @@ fn and_init(
     ensures value { IfOk result (λ ss. stmts_part made.new.keys ss ≡ spec.and_value first_one (space_of names.now) (stmts_part made.old.keys stmts) var.name var.number var.stand (Some (var_init_tree init.now))) }
     ensures most { IfOk result (λ ss. ss.count ≤ 100001) }
 {
-    let stmt = init_made(alloc, var, init, names, made)?;
+    let stmt = init_made(alloc, var, init, names, made);
+    let (stmts, stmt) = beside(stmts, stmt)?;
     let all = and_next(made, stmts, stmt)?;
     Ok(all)
 }
@@ -219,9 +220,11 @@ fn valued<'a>(
         stand,
     };
     let spelled = names.names.name(declarator.name);
-    let vars = and_var_name(part.vars, spelled, stand)?;
+    let vars = and_var_name(part.vars, spelled, stand);
+    let (stmts, vars) = beside(part.stmts, vars)?;
     let init = &declarator.init;
-    let stmts = value_behind(alloc, part.stmts, var, init, names, &vars, made)?;
+    let stmts = value_behind(alloc, stmts, var, init, names, &vars, made);
+    let (vars, stmts) = beside(vars, stmts)?;
     Ok(ValuedPart { vars, stmts })
 }
 

@@ -17,6 +17,7 @@ use indexmap::IndexMap;
 use sqlite_items::Items;
 use std::alloc::Global;
 use svr_elab_decl::{Used, UsedPart, data_type};
+use svr_elab_expr::beside;
 use svr_elab_fault::{Fault, earlier, when};
 use svr_elab_names::{NameSpace, Region, VarStand};
 use svr_refusal::Refusal;
@@ -128,10 +129,11 @@ fn and_var<'a>(
     let objects = one_more(part.objects, object);
     let others = one_more(part.others, !object);
     let fault = earlier(part.fault, refused);
-    let vars = and_var_name(part.vars, spelled, stand)?;
+    let vars = and_var_name(part.vars, spelled, stand);
+    let (stands, vars) = beside(part.stands, vars)?;
     Ok(VarsPart {
         vars,
-        stands: part.stands,
+        stands,
         objects,
         others,
         fault,
@@ -171,9 +173,10 @@ fn and_type<'a>(part: VarsPart<'a>, used: UsedPart) -> Result<VarsPart<'a>, NoMe
 {
     let stand = stand_of(used.used);
     let fault = earlier(part.fault, used.fault);
-    let stands = and_stand(part.stands, stand)?;
+    let stands = and_stand(part.stands, stand);
+    let (vars, stands) = beside(part.vars, stands)?;
     Ok(VarsPart {
-        vars: part.vars,
+        vars,
         stands,
         objects: part.objects,
         others: part.others,
@@ -236,7 +239,8 @@ fn var_decl<'a>(
     ensures value { IfOk result (λ p. vars_part p ≡ spec.var_decl first_one (space_of names.now) (vars_part part.entry) (var_tree decl.now)) }
     ensures length { IfOk result (λ p. length p.vars.entries ≤ length part.entry.vars.entries + length decl.now.vars) }
 {
-    let used = type_behind(alloc, &decl.kind, names, &part.vars)?;
+    let used = type_behind(alloc, &decl.kind, names, &part.vars);
+    let (part, used) = beside(part, used)?;
     let stand = stand_of(used.used);
     let typed = and_type(part, used)?;
     let all = and_vars(&names.names, typed, stand, decl.vars.as_slice())?;

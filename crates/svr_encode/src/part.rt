@@ -109,6 +109,51 @@ fn each_alone(alloc: Global, trees: &[TExpr]) -> Result<Vec<Part<'_>>, NoMemory>
     Ok(parts)
 }
 
+/// An expression alone.
+fn of_one(alloc: Global, tree: &TExpr) -> Result<Vec<Part<'_>>, NoMemory>
+    requires { IsTyped (expr_term tree.now) }
+    ensures parts { IfOk result (λ ps. map part_term ps.items ≡ alone_part (expr_term tree.now) ∷ []) }
+    ensures repeats { IfOk result (λ ps. AreRepeats [] ps.items) }
+{
+    Ok(vec![in alloc; alone(tree)]?)
+}
+
+/// Two expressions, each alone.
+fn of_two<'a>(alloc: Global, first: &'a TExpr, second: &'a TExpr) -> Result<Vec<Part<'a>>, NoMemory>
+    requires first_typed { IsTyped (expr_term first.now) }
+    requires second_typed { IsTyped (expr_term second.now) }
+    ensures parts { IfOk result (λ ps. map part_term ps.items ≡ alone_part (expr_term first.now) ∷ alone_part (expr_term second.now) ∷ []) }
+    ensures repeats { IfOk result (λ ps. AreRepeats [] ps.items) }
+{
+    Ok(vec![in alloc; alone(first), alone(second)]?)
+}
+
+/// An expression in the context of the whole.
+fn of_copy(alloc: Global, tree: &TExpr, width: u8, signed: bool) -> Result<Vec<Part<'_>>, NoMemory>
+    ensures parts { IfOk result (λ ps. map part_term ps.items ≡ in_context width signed (expr_term tree.now) ∷ []) }
+    ensures repeats { IfOk result (λ ps. AreRepeats [] ps.items) }
+{
+    Ok(vec![in alloc; in_context(tree, width, signed)]?)
+}
+
+/// A test alone, and the two values in the context of the whole.
+fn of_choice<'a>(
+    alloc: Global,
+    test: &'a TExpr,
+    met: &'a TExpr,
+    unmet: &'a TExpr,
+    width: u8,
+    signed: bool,
+) -> Result<Vec<Part<'a>>, NoMemory>
+    requires { IsTyped (expr_term test.now) }
+    ensures parts { IfOk result (λ ps. map part_term ps.items ≡ alone_part (expr_term test.now) ∷ in_context width signed (expr_term met.now) ∷ in_context width signed (expr_term unmet.now) ∷ []) }
+    ensures repeats { IfOk result (λ ps. AreRepeats [] ps.items) }
+{
+    let first = in_context(met, width, signed);
+    let second = in_context(unmet, width, signed);
+    Ok(vec![in alloc; alone(test), first, second]?)
+}
+
 /// The operand of a unary operator.
 fn of_unary(
     alloc: Global,
@@ -122,8 +167,8 @@ fn of_unary(
     ensures repeats { IfOk result (λ ps. AreRepeats [] ps.items) }
 {
     match unary_kind(op) {
-        UnaryKind::Changed(_) => Ok(vec![in alloc; in_context(x, width, signed)]?),
-        UnaryKind::Reduced(_) => Ok(vec![in alloc; alone(x)]?),
+        UnaryKind::Changed(_) => of_copy(alloc, x, width, signed),
+        UnaryKind::Reduced(_) => of_one(alloc, x),
     }
 }
 
@@ -151,7 +196,7 @@ fn of_binary<'a>(
             Ok(vec![in alloc; x, alone(right)]?)
         }
         BinaryKind::ByPair(_) => Ok(vec![in alloc; beside(left, right), behind(left, right)]?),
-        BinaryKind::Logical(_) => Ok(vec![in alloc; alone(left), alone(right)]?),
+        BinaryKind::Logical(_) => of_two(alloc, left, right),
     }
 }
 
@@ -173,36 +218,28 @@ pub(crate) fn parts_of<'a>(
         | TNode::Size(..)
         | TNode::Script(_)
         | TNode::Loop(_) => Ok(Vec::new(alloc)),
-        TNode::Element(_, index) => Ok(vec![in alloc; alone(index.get())]?),
-        TNode::Cell(_, _, first, second) => {
-            Ok(vec![in alloc; alone(first.get()), alone(second.get())]?)
-        }
+        TNode::Element(_, index) => of_one(alloc, index.get()),
+        TNode::Cell(_, _, first, second) => of_two(alloc, first.get(), second.get()),
         TNode::Reduce(prop, _, body) => bodies(alloc, body.get(), inputs.size(*prop)),
-        TNode::Of(_, part) => Ok(vec![in alloc; in_context(part.get(), width, signed)]?),
+        TNode::Of(_, part) => of_copy(alloc, part.get(), width, signed),
         TNode::Select {
             base,
             first,
             last,
             ..
-        } => {
-            let last = match last {
-                None => first.get(),
-                Some(last) => last.get(),
-            };
-            Ok(vec![in alloc; alone(base.get()), alone(last)]?)
-        }
+        } => match last {
+            None => of_two(alloc, base.get(), first.get()),
+            Some(last) => of_two(alloc, base.get(), last.get()),
+        },
         TNode::Unary { op, arg } => of_unary(alloc, *op, arg.get(), width, signed),
         TNode::Binary { op, left, right } => {
             of_binary(alloc, *op, left.get(), right.get(), width, signed)
         }
         TNode::Choice { test, yes, no } => {
-            let (met, unmet) = (yes.get(), no.get());
-            let first = in_context(met, width, signed);
-            let second = in_context(unmet, width, signed);
-            Ok(vec![in alloc; alone(test.get()), first, second]?)
+            of_choice(alloc, test.get(), yes.get(), no.get(), width, signed)
         }
         TNode::Inside { left, set } => set_parts(alloc, set.as_slice(), left.get()),
         TNode::Join { parts } | TNode::Copies { parts, .. } => each_alone(alloc, parts.as_slice()),
-        TNode::Sign { arg, .. } => Ok(vec![in alloc; alone(arg.get())]?),
+        TNode::Sign { arg, .. } => of_one(alloc, arg.get()),
     }
 }

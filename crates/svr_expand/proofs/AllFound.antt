@@ -11,14 +11,15 @@ use Rattle.svr_eval.specs.Reading.{Reading}
 use Rattle.svr_eval.specs.Value.{index_read}
 use Rattle.svr_frame.specs.declared.part.Part.{Part}
 use Rattle.svr_frame.specs.declared.part.Part.TheVariants.{Randc, Sizes, All}
-use Rattle.svr_expand.specs.declared.mention.Mention.{Mention}
-use Rattle.svr_expand.specs.declared.mention.Mention.TheVariants as mention
-use Rattle.svr_expand.specs.declared.mention.Spot.TheVariants as spot
+use Rattle.svr_mention.specs.declared.mention.Mention.{Mention}
+use Rattle.svr_mention.specs.declared.mention.Mention.TheVariants as mention
+use Rattle.svr_mention.specs.declared.mention.Spot.TheVariants as spot
 use Rattle.svr_frame.specs.Frame.{FrameTerm, is_random, is_cyclic, state_at}
 use Rattle.svr_frame.specs.Occurrences.{Fact, stated, dealt, disabled, Place, Occurrence, occurrence, is_hard, is_disable, are_met, closed_of, stands_in_loop}
 use Rattle.svr_frame.specs.Reads.{Read, of_scalar, of_element, of_cell, of_elements, of_size, property_read, is_element_read, mentions_element, reads_of, is_open, is_cell_at, has_place, covers}
 use Rattle.svr_frame.specs.Phases.{shape_at, sought_sizes, belongs, is_soft_of, is_named_by, is_named_by_cell, removes, removes_by, live, node_of, is_looked_at}
-use Rattle.svr_expand.specs.Expanded.{FindingTerm, asked, wished, gone, property_mentioned, is_element, mention_of, mentions_in, is_random_one, is_other_random, is_random_element, belongs_by, counts_by, one_counted, one_found, looks_at, found_by, cell_spot, cell_target, targets_of, finding_of, found_among, has_place_below, is_element_at, is_at_index, is_targeted_by, is_taken_back, targets_in, wished_exprs, asked_exprs}
+use Rattle.svr_mention.specs.Mentioned.{property_mentioned, is_element, mention_of, mentions_in, is_random_one, is_other_random, is_random_element, belongs_by, counts_by, cell_spot}
+use Rattle.svr_expand.specs.Expanded.{FindingTerm, asked, wished, gone, one_counted, one_found, looks_at, found_by, cell_target, targets_of, finding_of, found_among, has_place_below, is_element_at, is_at_index, is_targeted_by, is_taken_back, targets_in, wished_exprs, asked_exprs}
 
 any_map : {A B : Type 0} (t : B → Bool) (m : A → B) (xs : List A) → list_any t (map m xs) ≡ list_any (λ x. t (m x)) xs
 any_map t m [] = refl

@@ -1,5 +1,4 @@
-pub mod Appended
-pub mod Copies
+pub mod Joined
 pub mod Cuts
 pub mod Members
 pub mod Turned
@@ -14,5 +13,4 @@ pub mod TargetSets
 pub mod Still
 pub mod Active
 pub mod Enums
-pub mod Indexes
 pub mod Rows

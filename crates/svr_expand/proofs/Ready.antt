@@ -1,19 +1,15 @@
 -- Items that are typed and can be read are ready for the walk.
-use Rattle.std.proofs.Common.{ℕ, ◌+◌, List, Option, None, Some}
-use Rattle.svr_typed.specs.ItemTerm.{DistTerm, ItemTerm, plain, unique, implies, branch, foreach, disable, solve, ItemTerms, no_items, more_items, ElseTerm, no_else, else_items}
+use Rattle.std.proofs.Common.{ℕ, ◌+◌}
+use Rattle.svr_typed.specs.ItemTerm.{ItemTerm, plain, unique, implies, branch, foreach, disable, solve, ItemTerms, no_items, more_items, ElseTerm, no_else, else_items}
 use Rattle.svr_eval.specs.Reading.{Reading}
-use Rattle.svr_eval.specs.Holds.{DistIsTyped, ItemIsTyped, ItemsAreTyped, ElseIsTyped, DistCanRead, ItemCanRead, ItemsCanRead, ElseCanRead}
+use Rattle.svr_eval.specs.Holds.{ItemIsTyped, ItemsAreTyped, ElseIsTyped, ItemCanRead, ItemsCanRead, ElseCanRead}
 use Rattle.svr_frame.specs.Sound.{TargetCanRead, TargetsCanRead, ElseTargetsCanRead}
-use Rattle.svr_expand.specs.Expanded.{DistIsReady, ItemIsReady, ItemsAreReady, ElseIsReady}
+use Rattle.svr_expand.specs.Expanded.{ItemIsReady, ItemsAreReady, ElseIsReady}
 
 module _ (a : Reading) where
-  dist_ready : (depth : ℕ) (d : Option (List DistTerm)) → DistIsTyped d → DistCanRead a depth d → DistIsReady a depth d
-  dist_ready depth None t r = tt
-  dist_ready depth (Some ds) t r = (t, r)
-
   mutual
     item_ready : (depth : ℕ) (i : ItemTerm) → ItemIsTyped i → ItemCanRead a depth i → TargetCanRead a depth i → ItemIsReady a depth i
-    item_ready depth (plain soft e dist) t r k = ((t.0, r.0), dist_ready depth dist t.1 r.1)
+    item_ready depth (plain soft e dist) t r k = ((t.0, r.0), (t.1, r.1))
     item_ready depth (unique es) t r k = (t, r)
     item_ready depth (implies test body) t r k = ((t.0, r.0), items_ready depth body t.1 r.1 k)
     item_ready depth (branch test met unmet) t r k = ((t.0, r.0), items_ready depth met t.1 r.1 k.0, else_ready depth unmet t.2 r.2 k.1)

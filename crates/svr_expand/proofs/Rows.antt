@@ -3,8 +3,9 @@ use Rattle.std.proofs.Common.{◌≡◌, ◌==◌, ◌/◌, ℕ, Bool, true, fal
 use Rattle.std.specs.Prelude.{if◌then◌else◌, slice_index}
 use Rattle.svr_typed.specs.ItemTerm.{ItemTerms, foreach}
 use Rattle.svr_frame.specs.Occurrences.{Place, within, each_below, all_occur}
-use Rattle.svr_expand.specs.declared.around.Setting.{Setting}
-use Rattle.svr_expand.specs.Expanded.{FindingTerm, shape_in, found_in_all, found_in, all_found_in}
+use Rattle.svr_mention.specs.declared.setting.Setting.{Setting}
+use Rattle.svr_mention.specs.Mentioned.{shape_in}
+use Rattle.svr_expand.specs.Expanded.{FindingTerm, found_in_all, found_in, all_found_in}
 use Rattle.svr_expand.specs.Loops.{found_within, found_in_row, found_in_loop}
 
 module _ (x : Setting) (at : Place) (p m names : ℕ) (body : ItemTerms) where

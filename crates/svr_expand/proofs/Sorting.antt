@@ -5,7 +5,7 @@ use Rattle.std.specs.List.{list_any}
 use Rattle.std.proofs.lemmas.List.{map-append, reverse-append}
 use Rattle.std.proofs.lemmas.List.Folds.{list_any-append}
 use Rattle.svr_typed.specs.ExprTerm.{ExprTerm}
-use Rattle.svr_expand.specs.declared.mention.Mention.{Mention}
+use Rattle.svr_mention.specs.declared.mention.Mention.{Mention}
 use Rattle.svr_expand.specs.declared.finding.Finding.{Finding}
 use Rattle.svr_expand.specs.Expanded.{FindingTerm, asked, wished, gone, finding_term, findings, targets_one, asked_one, wished_one, is_targeted_by, is_taken_back, targets_in, wished_exprs, asked_exprs}
 

@@ -19,13 +19,14 @@ use Rattle.svr_frame.specs.Reads.{Read, of_size, fact_reads, dist_reads, guards_
 use Rattle.svr_frame.specs.Finds.{is_one}
 use Rattle.svr_frame.specs.Phases.{shape_at, belongs, is_soft_of, node_of}
 use Rattle.svr_frame.proofs.Found.{found, members_found}
-use Rattle.svr_expand.specs.Expanded.{FindingTerm, gone, mentions_in, counts_by, one_counted, one_found, one_gone, looks_at, targets_of, finding_of, found_among, disables, any_disables, else_disables, turns_differ, shape_in, guards_of, place_of, over_of, found_in_all, all_found_in, finding_term, findings}
+use Rattle.svr_mention.specs.Mentioned.{mentions_in, counts_by, shape_in}
+use Rattle.svr_expand.specs.Expanded.{FindingTerm, gone, one_counted, one_found, one_gone, looks_at, targets_of, finding_of, found_among, disables, any_disables, else_disables, turns_differ, guards_of, place_of, over_of, found_in_all, all_found_in, finding_term, findings}
 use Rattle.svr_expand.specs.Loops.{found_within, found_in_row, found_in_loop}
 use Rattle.svr_expand.specs.declared.finding.Finding.{Finding}
 use Rattle.svr_expand.specs.declared.around.Around.{Around}
-use Rattle.svr_expand.specs.declared.around.Setting.{Setting}
+use Rattle.svr_mention.specs.declared.setting.Setting.{Setting}
 use Rattle.svr_expand.proofs.AllFound.{hard_counts, soft_counts}
-use Rattle.svr_expand.proofs.Appended.{found_more}
+use Rattle.svr_expand.proofs.Joined.{found_more}
 
 -- ---- lists
 

@@ -5,9 +5,9 @@ use Rattle.std.specs.List.{list_any}
 use Rattle.std.specs.HashSet.{contains}
 use Rattle.std.proofs.lemmas.List.Folds.{list_any-append}
 use Rattle.std.proofs.lemmas.Cmp.{nat_eq_equiv}
-use Rattle.svr_expand.specs.declared.mention.Mention.{Mention}
-use Rattle.svr_expand.specs.declared.mention.Mention.TheVariants as mention
-use Rattle.svr_expand.specs.declared.mention.Spot.TheVariants as spot
+use Rattle.svr_mention.specs.declared.mention.Mention.{Mention}
+use Rattle.svr_mention.specs.declared.mention.Mention.TheVariants as mention
+use Rattle.svr_mention.specs.declared.mention.Spot.TheVariants as spot
 use Rattle.svr_expand.specs.declared.targets.Targets.{Targets}
 use Rattle.svr_expand.specs.Expanded.{FindingTerm, asked, wished, gone, targets_one, wished_one, is_targeted_by, is_taken_back}
 use Rattle.svr_expand.specs.Targeted.{same_element, is_whole, is_element_of, is_there, HoldsTargets, AddsTarget, AddsFound, removes_one, wished_of}

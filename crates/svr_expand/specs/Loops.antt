@@ -2,8 +2,9 @@
 use Rattle.std.specs.Prelude.{ℕ, List}
 use Rattle.svr_typed.specs.ItemTerm.{ItemTerms}
 use Rattle.svr_frame.specs.Occurrences.{Place, within, each_below, each_of_row, all_occur}
-use Rattle.svr_expand.specs.declared.around.Setting.{Setting}
-use Rattle.svr_expand.specs.Expanded.{FindingTerm, shape_in, found_in_all}
+use Rattle.svr_mention.specs.declared.setting.Setting.{Setting}
+use Rattle.svr_mention.specs.Mentioned.{shape_in}
+use Rattle.svr_expand.specs.Expanded.{FindingTerm, found_in_all}
 
 -- in a loop over p, at each index below n
 abbrev pub found_within : Setting → Place → ℕ → ℕ → ItemTerms → List FindingTerm

@@ -4,10 +4,10 @@ use Rattle.std.specs.List.{list_any}
 use Rattle.std.specs.Ordering.{int_eq}
 use Rattle.std.specs.HashSet.{contains}
 use Rattle.svr_typed.specs.ExprTerm.{ExprTerm}
-use Rattle.svr_expand.specs.declared.mention.Mention.{Mention}
-use Rattle.svr_expand.specs.declared.mention.Mention.TheVariants as mention
-use Rattle.svr_expand.specs.declared.mention.Spot.{Spot}
-use Rattle.svr_expand.specs.declared.mention.Spot.TheVariants as spot
+use Rattle.svr_mention.specs.declared.mention.Mention.{Mention}
+use Rattle.svr_mention.specs.declared.mention.Mention.TheVariants as mention
+use Rattle.svr_mention.specs.declared.mention.Spot.{Spot}
+use Rattle.svr_mention.specs.declared.mention.Spot.TheVariants as spot
 use Rattle.svr_expand.specs.declared.targets.Targets.{Targets}
 use Rattle.svr_expand.specs.Expanded.{has_place_below, FindingTerm, asked, wished, gone}
 

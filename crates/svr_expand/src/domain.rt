@@ -1,15 +1,16 @@
 // Items of the unknowns themselves: an enum takes only its members (IEEE 1800-2017, 6.19.3), and a size is not negative.
 
-ghost use Rattle.std.specs.Prelude.{◌≡◌, ◌++◌, ◌≤◌, OnOk, IfOk, length, map};
-ghost use Rattle.svr_typed.specs.ExprTerm.{expr_term, node_term, range_terms};
+ghost use Rattle.std.specs.Prelude.{◌≡◌, ◌++◌, ◌∷◌, ◌≤◌, [], false, OnOk, IfOk, length, map};
+ghost use Rattle.svr_typed.specs.ExprTerm.{RangeTerms, typed, inside, expr_term, node_term, range_terms};
 ghost use Rattle.svr_limits.specs.declared.limit.TheConstants.{PROPERTY_LIMIT};
 ghost use Rattle.svr_frame.specs.Frame.{frame_term, members_of, members_of_enum};
 ghost use Rattle.svr_expand.specs.Domains as spec;
 
-use crate::close::index_number;
 use crate::guards::binary;
+use crate::held::let_go;
 use sqlite_items::Items;
 use std::alloc::Global;
+use svr_closed::index_number;
 use svr_frame::{Frame, Slot};
 use svr_operator::BinOp;
 use svr_typed::{NoMemory, TExpr, TNode, TRange};
@@ -33,6 +34,24 @@ fn member_ranges(
     Ok(ranges)
 }
 
+/// Adds that an expression is one of these members, where they are there.
+fn add_test(
+    alloc: Global,
+    left: TExpr,
+    members: Result<Items<TRange>, NoMemory>,
+    out: &mut Items<TExpr>,
+) -> Result<(), NoMemory>
+    ensures { (rs : RangeTerms) → IfOk members (λ m. range_terms m ≡ rs) → OnOk result (map expr_term out.new ≡ map expr_term out.old ++ typed 1 false (inside (expr_term left) rs) ∷ []) }
+{
+    match members {
+        Err(fault) => Err(let_go(left, fault)),
+        Ok(members) => {
+            out.push(TExpr::new(1, false, TNode::inside(alloc, left, members)?))?;
+            Ok(())
+        }
+    }
+}
+
 /// Adds that a number of a property is one of the members of its enum, where it has one.
 fn add_among(
     alloc: Global,
@@ -44,12 +63,14 @@ fn add_among(
     ensures { OnOk result (map expr_term out.new ≡ map expr_term out.old ++ spec.among_exprs (frame_term frame.now) prop (node_term node) (members_of (frame_term frame.now) prop)) }
 {
     match frame.enum_of(prop) {
-        None => Ok(()),
-        Some(named) => {
-            let members = member_ranges(alloc, frame, prop, named)?;
-            let left = TExpr::new(frame.width(prop), frame.is_signed(prop), node);
-            out.push(TExpr::new(1, false, TNode::inside(alloc, left, members)?))?;
+        None => {
+            drop(node);
             Ok(())
+        }
+        Some(named) => {
+            let left = TExpr::new(frame.width(prop), frame.is_signed(prop), node);
+            let members = member_ranges(alloc, frame, prop, named);
+            add_test(alloc, left, members, out)
         }
     }
 }
@@ -74,7 +95,7 @@ fn add_slot_item(
 }
 
 /// Adds that the unknowns of enums are among their members.
-#[tactic(auto, using(crate::proofs::Appended::found_after))]
+#[tactic(auto, using(crate::proofs::Joined::found_after))]
 pub(crate) fn add_slot_items(
     alloc: Global,
     frame: &Frame,

@@ -2,13 +2,11 @@
 #![tactic(auto)]
 
 mod around;
-mod close;
 mod domain;
 mod examples;
 mod finding;
-mod gather;
 mod guards;
-mod mention;
+mod held;
 mod pairs;
 mod phase;
 mod slots;

@@ -6,20 +6,21 @@ ghost use Rattle.svr_eval.specs.Reading.{Reading, reading_of};
 ghost use Rattle.svr_eval.specs.Value.{property_of};
 ghost use Rattle.svr_frame.specs.Closed as closing;
 ghost use Rattle.svr_frame.specs.Occurrences as spec;
-ghost use Rattle.svr_expand.specs.Expanded.{guards_of, place_of, GuardsAreReady, findings, found_at, found_of, mention_in, reads_in, shape_in, ExprIsReady, ExprsAreReady};
+ghost use Rattle.svr_frame.specs.Reads.{of_element};
+ghost use Rattle.svr_mention.specs.Mentioned.{mention_in, reads_in, shape_in};
+ghost use Rattle.svr_expand.specs.Expanded.{guards_of, place_of, GuardsAreReady, findings, found_at, found_of, ExprIsReady, ExprsAreReady};
 ghost use Rattle.svr_expand.specs.Operands.{operand_expr, operand_exprs, OperandIsReady, AllReady};
 
-use crate::around::{Around, Setting};
-use crate::close::{closed, index_number};
+use crate::around::Around;
 use crate::finding::Finding;
-use crate::gather::{add_mentions, element_mention};
 use crate::guards::binary;
-use crate::mention::{Mention, counts};
 use crate::walk::{add_guard_mentions, add_loop_mentions, add_occurrence};
 use sqlite_items::Items;
 use std::alloc::Global;
+use svr_closed::{closed, index_number};
 use svr_eval::Env;
 use svr_frame::size_at;
+use svr_mention::{Mention, Setting, add_mentions, counts, element_mention};
 use svr_operator::BinOp;
 use svr_typed::{NoMemory, TExpr, TNode};
 
@@ -53,6 +54,26 @@ fn closed_operand(alloc: Global, x: &Operand<'_>, env: &Env) -> Result<TExpr, No
     }
 }
 
+/// `x != y`, closed.
+fn unequal(alloc: Global, x: &Operand<'_>, y: &Operand<'_>, env: &Env) -> Result<TExpr, NoMemory>
+    ensures { IfOk result (λ r. expr_term r ≡ closing.closed env.now (spec.unequal (operand_expr x.now) (operand_expr y.now))) }
+{
+    let left = closed_operand(alloc, x, env);
+    let right = closed_operand(alloc, y, env);
+    match left.ok().zip(right.ok()) {
+        None => Err(NoMemory),
+        Some((left, right)) => binary(alloc, BinOp::NotEqual, left, right),
+    }
+}
+
+/// The mention of an element at a number.
+fn numbered_mention(prop: u32, at: u32, env: &Env, set: &Setting<'_>) -> Mention
+    ensures { result ≡ mention_in set.now (of_element prop env.now (closing.index_number at)) }
+{
+    let index = index_number(at);
+    element_mention(prop, &index, env, set)
+}
+
 /// Adds what the operand mentions.
 fn add_operand_mentions(
     alloc: Global,
@@ -67,15 +88,14 @@ fn add_operand_mentions(
     match x {
         Operand::Whole(e) => add_mentions(alloc, e, env, set, out),
         Operand::Element { prop, at, .. } => {
-            let index = index_number(*at);
-            out.push(element_mention(*prop, &index, env, set))?;
+            out.push(numbered_mention(*prop, *at, env, set))?;
             Ok(())
         }
     }
 }
 
 /// Adds `x != y`, where it counts in the phase.
-#[tactic(auto, using(crate::proofs::Appended::then))]
+#[tactic(auto, using(svr_mention::proofs::Appended::then))]
 fn add_pair(
     alloc: Global,
     x: &Operand<'_>,
@@ -102,15 +122,13 @@ fn add_pair(
         env.depth() > 0,
         mentions.as_slice(),
     ) {
-        let left = closed_operand(alloc, x, env)?;
-        let right = closed_operand(alloc, y, env)?;
-        let e = binary(alloc, BinOp::NotEqual, left, right)?;
+        let e = unequal(alloc, x, y, env)?;
         add_occurrence(alloc, false, e, mentions, at, out)?;
     }
     Ok(())
 }
 
-#[tactic(auto, using(crate::proofs::Appended::found_after))]
+#[tactic(auto, using(crate::proofs::Joined::found_after))]
 fn add_against(
     alloc: Global,
     x: &Operand<'_>,
@@ -132,7 +150,7 @@ fn add_against(
 }
 
 /// Adds each two of the operands, in the order of the first and then of the second.
-#[tactic(auto, using(crate::proofs::Appended::found_pairs))]
+#[tactic(auto, using(crate::proofs::Joined::found_pairs))]
 fn add_all_pairs(
     alloc: Global,
     operands: &[Operand<'_>],

@@ -1,6 +1,6 @@
 // What a phase asks, as closed expressions.
 
-ghost use Rattle.std.specs.Prelude.{◌≡◌, [], ◌++◌, ◌≤◌, ℕ, List, IfOk, OnOk, length, map};
+ghost use Rattle.std.specs.Prelude.{◌≡◌, [], ◌++◌, ◌≤◌, ℕ, List, IfOk, length, map};
 ghost use Rattle.svr_typed.specs.ExprTerm.{expr_term};
 ghost use Rattle.svr_eval.specs.Reading.{Reading, reading_of};
 ghost use Rattle.svr_eval.specs.Value.{alone, is_set};
@@ -11,9 +11,8 @@ ghost use Rattle.svr_frame.specs.Phases as spec;
 ghost use Rattle.svr_frame.specs.Satisfaction.{IsAssignment};
 ghost use Rattle.svr_frame.specs.Sound.{IsSound, SizesFit};
 ghost use Rattle.svr_expand.specs.Domains.{all_slot_exprs, size_exprs_of};
-ghost use Rattle.svr_expand.specs.Expanded.{asked_exprs, wished_exprs, found_among};
 
-use crate::around::{Around, Setting};
+use crate::around::Around;
 use crate::domain::{add_size_items, add_slot_items};
 use crate::slots::unknowns;
 use crate::sort::{Expansion, sorted};
@@ -23,10 +22,11 @@ use sqlite_items::Items;
 use std::alloc::Global;
 use svr_eval::{Assign, Env};
 use svr_frame::{Frame, Part};
+use svr_mention::Setting;
 use svr_typed::{NoMemory, TExpr};
 
 /// The items of the unknowns themselves.
-#[tactic(auto, using(crate::proofs::Appended::three))]
+#[tactic(auto, using(crate::proofs::Joined::three))]
 fn own_items(
     alloc: Global,
     frame: &Frame,

@@ -2,13 +2,14 @@
 
 ghost use Rattle.std.specs.Prelude.{◌≡◌, ◌++◌, IfOk, OnOk, map, reverse, slice_index};
 ghost use Rattle.svr_typed.specs.ExprTerm.{expr_term};
-ghost use Rattle.svr_expand.specs.Expanded.{finding_term, findings, asked_one, asked_exprs, wished_exprs};
+ghost use Rattle.svr_expand.specs.Expanded.{wished, finding_term, findings, asked_one, asked_exprs, wished_exprs};
 ghost use Rattle.svr_expand.specs.Targeted.{AddsFound, wished_of};
 
 use crate::finding::Finding;
 use crate::targets::Targets;
 use sqlite_items::Items;
 use std::alloc::Global;
+use svr_mention::Mention;
 use svr_typed::{NoMemory, TExpr};
 
 /// The items of a phase as closed expressions.
@@ -33,6 +34,25 @@ fn reversed(alloc: Global, exprs: Items<TExpr>) -> Result<Items<TExpr>, NoMemory
     Ok(turned)
 }
 
+/// Adds a soft expression, unless a target behind it is mentioned.
+fn keep(
+    e: TExpr,
+    mentions: Items<Mention>,
+    targets: &Targets,
+    soft: &mut Items<TExpr>,
+) -> Result<(), NoMemory>
+    ensures { OnOk result (map expr_term soft.new ≡ map expr_term soft.old ++ wished_of targets.now (wished (expr_term e) mentions)) }
+{
+    let gone = targets.removes(mentions.as_slice());
+    drop(mentions);
+    if gone {
+        drop(e);
+    } else {
+        soft.push(e)?;
+    }
+    Ok(())
+}
+
 /// Takes one finding from the end of the list: a hard one, a soft one that no target behind it removes, or a target (IEEE 1800-2017, 18.5.14.2).
 fn sort_one(
     finding: Finding,
@@ -48,11 +68,7 @@ fn sort_one(
     match finding {
         Finding::Asked(e) => hard.push(e)?,
         Finding::Gone(target) => targets.add(target, sizes)?,
-        Finding::Wished(e, mentions) => {
-            if !targets.removes(mentions.as_slice()) {
-                soft.push(e)?;
-            }
-        }
+        Finding::Wished(e, mentions) => keep(e, mentions, &*targets, soft)?,
     }
     Ok(())
 }

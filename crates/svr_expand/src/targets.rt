@@ -5,15 +5,15 @@ ghost use Rattle.std.specs.List.{list_any};
 ghost use Rattle.std.specs.HashSet.{contains};
 ghost use Rattle.std.specs.Ordering.{int_eq};
 ghost use Rattle.svr_expand.specs.Expanded.{has_place_below};
-ghost use Rattle.svr_expand.specs.declared.mention.Mention.TheVariants as mentioned;
-ghost use Rattle.svr_expand.specs.declared.mention.Spot.TheVariants as spot;
+ghost use Rattle.svr_mention.specs.declared.mention.Mention.TheVariants as mentioned;
+ghost use Rattle.svr_mention.specs.declared.mention.Spot.TheVariants as spot;
 ghost use Rattle.svr_expand.specs.Targeted as spec;
 ghost use Rattle.svr_expand.specs.Targeted.{HoldsTargets, AddsTarget};
 
-use crate::mention::{Mention, Spot};
 use std::alloc::Global;
 use std::collections::HashSet;
 use svr_frame::size_at;
+use svr_mention::{Mention, Spot};
 use svr_typed::NoMemory;
 
 /// The targets of the `disable soft` items behind a place.

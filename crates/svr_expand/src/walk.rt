@@ -1,40 +1,31 @@
 // The walk over the items of a call, which finds what stands at their leaves.
 
-ghost use Rattle.std.specs.Prelude.{◌≡◌, ◌==◌, ◌&&◌, ◌⊎◌, ◌+◌, ◌-◌, ◌≤◌, ◌++◌, ◌∷◌, ◌<◌, [], not, OnOk, IfOk, length, map, filter, option_map, slice_index};
+ghost use Rattle.std.specs.Prelude.{◌≡◌, ◌==◌, ◌&&◌, ◌⊎◌, ◌+◌, ◌-◌, ◌≤◌, ◌++◌, ◌∷◌, ◌<◌, [], not, OnOk, length, map, option_map};
 ghost use Rattle.svr_limits.specs.declared.limit.TheConstants.{LOOP_LIMIT};
-ghost use Rattle.svr_typed.specs.ExprTerm.{expr_term, expr_terms, range_term, range_terms};
-ghost use Rattle.svr_typed.specs.ItemTerm.{item_term, item_terms, dist_term, dist_terms};
+ghost use Rattle.svr_typed.specs.ExprTerm.{expr_term};
+ghost use Rattle.svr_typed.specs.ItemTerm.{item_term, item_terms, dist_terms};
 ghost use Rattle.svr_eval.specs.Reading.{reading_of};
-ghost use Rattle.svr_eval.specs.Value as value;
-ghost use Rattle.svr_eval.specs.Holds as truth;
-ghost use Rattle.svr_eval.specs.Holds.{WeightIsTyped, WeightCanRead};
 ghost use Rattle.svr_frame.specs.Occurrences as spec;
 ghost use Rattle.svr_frame.specs.Frame.{frame_term};
 ghost use Rattle.svr_frame.specs.Phases.{sought_sizes};
 ghost use Rattle.svr_frame.specs.Reads.{of_size, has_free_size_in};
 ghost use Rattle.svr_expand.specs.Loops.{found_within, found_in_row, found_in_loop};
-ghost use Rattle.svr_expand.specs.Expanded.{guards_of, place_of, over_of, findings, one_found, found_at, gone_at, looked_at, found_in, all_found_in, mention_in, fact_reads_in, dist_reads_in, guards_read_in, turns_differ, disables, any_disables, targets_of, node_in, option_list, shape_in, ExprIsReady, MembersAreReady, DistIsReady, GuardsAreReady, ItemIsReady, ItemsAreReady};
+ghost use Rattle.svr_mention.specs.Mentioned.{mention_in, shape_in};
+ghost use Rattle.svr_expand.specs.Expanded.{guards_of, place_of, over_of, findings, one_found, found_at, gone_at, looked_at, found_in, all_found_in, guards_read_in, turns_differ, disables, any_disables, targets_of, node_in, option_list, ExprIsReady, DistIsReady, GuardsAreReady, ItemIsReady, ItemsAreReady};
 
-use crate::around::{Around, Setting};
-use crate::close::{closed, closed_member};
+use crate::around::Around;
 use crate::finding::Finding;
-use crate::gather::{add_mentions, add_mentions_of_range, cell_spot, index_value};
 use crate::guards::guarded;
-use crate::mention::{Mention, Spot, counts};
 use crate::pairs::add_pairs;
 use sqlite_items::Items;
 use std::alloc::Global;
-use svr_eval::{Assign, Env, value};
+use svr_closed::{fact_expr, is_set};
+use svr_eval::{Assign, Env};
 use svr_frame::{Part, holds_free_size, size_at};
-use svr_typed::{NoMemory, TDistItem, TExpr, TItem, TNode, TRange};
-
-/// Whether the expression is not 0 in the state.
-fn is_set(e: &TExpr, env: &Env, state: &Assign) -> bool
-    requires { ExprIsReady (reading_of state.now) (length env.now) (expr_term e.now) }
-    ensures { result ≡ value.is_set (value.alone (reading_of state.now) env.now (expr_term e.now)) }
-{
-    value(e, state, env).value() != 0
-}
+use svr_mention::{
+    Mention, Setting, Spot, add_fact_mentions, add_mentions, cell_spot, counts, index_value,
+};
+use svr_typed::{NoMemory, TDistItem, TExpr, TItem, TNode};
 
 /// Whether all tests are met in the state.
 fn are_met(at: &Around<'_>, state: &Assign) -> bool
@@ -51,102 +42,8 @@ fn are_met(at: &Around<'_>, state: &Assign) -> bool
     }
 }
 
-/// Whether the member's weight is not 0 in the state.
-fn has_weight(d: &TDistItem, env: &Env, state: &Assign) -> bool
-    requires typed { WeightIsTyped (dist_term d.now).weight }
-    requires reads { WeightCanRead (reading_of state.now) (length env.now) (dist_term d.now).weight }
-    ensures { result ≡ truth.has_weight (reading_of state.now) env.now (dist_term d.now).weight }
-{
-    match &d.weight {
-        None => true,
-        Some((_, e)) => is_set(e, env, state),
-    }
-}
-
-/// The members whose weight is not 0 in the state, closed.
-fn closed_members(
-    alloc: Global,
-    dist: &[TDistItem],
-    env: &Env,
-    state: &Assign,
-) -> Result<Items<TRange>, NoMemory>
-    requires { MembersAreReady (reading_of state.now) (length env.now) (dist_terms dist.now) }
-    ensures { IfOk result (λ r. map range_term r ≡ spec.closed_members env.now (filter (spec.are_weighed (reading_of state.now) env.now) (dist_terms dist.now))) }
-{
-    let mut members = Items::new(alloc);
-    for d in dist {
-        if has_weight(d, env, state) {
-            members.push(closed_member(alloc, &d.range, env)?)?;
-        }
-    }
-    Ok(members)
-}
-
-/// What a plain item states, as a closed expression: a distribution is set membership (IEEE 1800-2017, 18.5.4).
-fn fact_expr(
-    alloc: Global,
-    expr: &TExpr,
-    dist: &Option<Items<TDistItem>>,
-    env: &Env,
-    state: &Assign,
-) -> Result<TExpr, NoMemory>
-    requires { DistIsReady (reading_of state.now) (length env.now) (option_map dist_terms dist.now) }
-    ensures { IfOk result (λ r. expr_term r ≡ spec.fact_expr (spec.are_weighed (reading_of state.now)) env.now (spec.fact_of (expr_term expr.now) (option_map dist_terms dist.now))) }
-{
-    match dist {
-        None => closed(alloc, expr, env),
-        Some(members) => {
-            let members = closed_members(alloc, members.as_slice(), env, state)?;
-            let left = closed(alloc, expr, env)?;
-            Ok(TExpr::new(1, false, TNode::inside(alloc, left, members)?))
-        }
-    }
-}
-
-/// Adds what the members of a distribution and their weights mention.
-#[tactic(auto, using(crate::proofs::Appended::then, crate::proofs::Appended::after))]
-fn add_dist_mentions(
-    alloc: Global,
-    dist: &[TDistItem],
-    env: &Env,
-    set: &Setting<'_>,
-    out: &mut Items<Mention>,
-) -> Result<(), NoMemory>
-    requires { MembersAreReady (reading_of set.now.state.now) (length env.now) (dist_terms dist.now) }
-    ensures { OnOk result (out.new ≡ out.old ++ map (mention_in set.now) (dist_reads_in set.now env.now (dist_terms dist.now))) }
-{
-    for d in dist {
-        add_mentions_of_range(alloc, &d.range, env, set, out)?;
-        if let Some((_, weight)) = &d.weight {
-            add_mentions(alloc, weight, env, set, out)?;
-        }
-    }
-    Ok(())
-}
-
-/// Adds what a plain item mentions.
-#[tactic(auto, using(crate::proofs::Appended::then))]
-fn add_fact_mentions(
-    alloc: Global,
-    expr: &TExpr,
-    dist: &Option<Items<TDistItem>>,
-    env: &Env,
-    set: &Setting<'_>,
-    out: &mut Items<Mention>,
-) -> Result<(), NoMemory>
-    requires ready { ExprIsReady (reading_of set.now.state.now) (length env.now) (expr_term expr.now) }
-    requires dist_ready { DistIsReady (reading_of set.now.state.now) (length env.now) (option_map dist_terms dist.now) }
-    ensures { OnOk result (out.new ≡ out.old ++ map (mention_in set.now) (fact_reads_in set.now env.now (spec.fact_of (expr_term expr.now) (option_map dist_terms dist.now)))) }
-{
-    add_mentions(alloc, expr, env, set, out)?;
-    if let Some(members) = dist {
-        add_dist_mentions(alloc, members.as_slice(), env, set, out)?;
-    }
-    Ok(())
-}
-
 /// Adds what the tests mention.
-#[tactic(auto, using(crate::proofs::Appended::then))]
+#[tactic(auto, using(svr_mention::proofs::Appended::then))]
 pub(crate) fn add_guard_mentions(
     alloc: Global,
     at: &Around<'_>,
@@ -167,7 +64,7 @@ pub(crate) fn add_guard_mentions(
 }
 
 /// Adds the sizes of the arrays of the loops, the innermost last.
-#[tactic(auto, using(crate::proofs::Appended::then))]
+#[tactic(auto, using(svr_mention::proofs::Appended::then))]
 pub(crate) fn add_loop_mentions(
     at: &Around<'_>,
     set: &Setting<'_>,
@@ -356,7 +253,7 @@ fn turns_differ(body: &[TItem], part: Part) -> bool
 
 /// Adds what stands at the leaves of an item, in the order of the text.
 #[cycle(walk)]
-#[tactic(auto, using(crate::proofs::Appended::found_then, crate::proofs::Rows::all_rows))]
+#[tactic(auto, using(crate::proofs::Joined::found_then, crate::proofs::Rows::all_rows))]
 pub(crate) fn add_item(
     alloc: Global,
     item: &TItem,
@@ -407,7 +304,7 @@ pub(crate) fn add_item(
 
 /// Adds what stands at the leaves of items, in the order of the text.
 #[cycle(walk)]
-#[tactic(auto, using(crate::proofs::Appended::found_after))]
+#[tactic(auto, using(crate::proofs::Joined::found_after))]
 pub(crate) fn add_items(
     alloc: Global,
     items: &[TItem],

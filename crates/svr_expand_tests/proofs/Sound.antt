@@ -1,14 +1,14 @@
 -- The sample can be a call.
-use Rattle.std.proofs.Common.{◌≡◌, ◌<◌, ◌≤◌, ◌^◌, ℕ, zero, suc, Bool, true, false, refl, List, [], ◌∷◌, length, arith, inl, lit<, lit≤}
-use Rattle.std.specs.Prelude.{⊤, slice_index, slice_index_or}
+use Rattle.std.proofs.Common.{◌≡◌, ◌<◌, ◌≤◌, ◌^◌, ℕ, zero, suc, true, refl, [], ◌∷◌, length, arith, inl, lit<, lit≤}
+use Rattle.std.specs.Prelude.{slice_index, slice_index_or}
 use Rattle.std.proofs.lemmas.List.Elements.{All-nil, All-cons}
 use Rattle.svr_typed.specs.declared.class.Prop.{Prop}
 use Rattle.svr_eval.specs.Reading.{reading_of}
 use Rattle.svr_eval.specs.Typed.{IsTyped}
 use Rattle.svr_eval.specs.Examples.{int}
 use Rattle.svr_eval.specs.Holds.{ItemsAreTyped, ItemsCanRead}
-use Rattle.svr_frame.specs.Frame.{is_random, is_dynamic, can_be_random, has_free_size, width_of, state_sizes}
-use Rattle.svr_frame.specs.Sound.{IsEnum, IsProp, SizeIsOf, TargetsCanRead, ItemsAreIn, IsSound, SizesFit}
+use Rattle.svr_frame.specs.Frame.{is_random, is_dynamic, can_be_random, has_free_size, width_of}
+use Rattle.svr_frame.specs.Sound.{IsEnum, IsProp, SizeIsOf, ItemsAreIn, IsSound, SizesFit}
 use Rattle.svr_frame.specs.Examples.{at_, equal, k0}
 use Rattle.svr_expand_tests.specs.Sample.{sample_prop, sample_frame}
 

@@ -1,5 +1,5 @@
 -- `rand bit [1:0] d [3]; unique {d}; foreach (d[k]) soft d[k] == 0;`
-use Rattle.std.specs.Prelude.{ℕ, Bool, true, false, List, [], ◌∷◌}
+use Rattle.std.specs.Prelude.{true, false, [], ◌∷◌}
 use Rattle.svr_typed.specs.declared.class.Prop.{Prop}
 use Rattle.svr_typed.specs.ExprTerm.{exprs_of}
 use Rattle.svr_typed.specs.ItemTerm.{ItemTerm, unique, foreach, items_of}

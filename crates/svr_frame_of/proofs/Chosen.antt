@@ -1,8 +1,8 @@
 -- Whether a call chooses a size, by the leaves of a frame that marks it.
-use Rattle.std.proofs.Common.{◌≡◌, ◌<◌, ℕ, Bool, true, false, ◌&&◌, refl, sym, ◌∙◌, ap, List, []}
-use Rattle.std.specs.List.{list_any}
+use Rattle.std.proofs.Common.{◌≡◌, ◌<◌, ℕ, Bool, true, false, ◌&&◌, refl, sym, ◌∙◌, ap, List, [], length, map}
+use Rattle.std.specs.List.{list_any, range_with_len}
 use Rattle.svr_typed.specs.ItemTerm.{ItemTerms}
-use Rattle.svr_frame.specs.Frame.{FrameTerm, is_random, is_dynamic, state_sizes}
+use Rattle.svr_frame.specs.Frame.{FrameTerm, is_random, is_dynamic, props_of, state_sizes}
 use Rattle.svr_frame.specs.Reads.{mentions_size}
 use Rattle.svr_frame.specs.Phases.{shape_at, active_at}
 use Rattle.svr_frame.specs.Making.{can_free, is_free}
@@ -27,3 +27,9 @@ module _ (f : FrameTerm) (p : ℕ) where
 -- frames that differ in their free sizes alone choose the same ones
 pub same_choice : (f g : FrameTerm) (p : ℕ) → with_free f [] ≡ with_free g [] → is_free f p ≡ is_free g p
 same_choice f g p h = ap (λ (x : FrameTerm). is_free x p) h
+
+-- a frame with the sizes that it chooses, where others were free meanwhile
+pub with_choice : (f g w : FrameTerm) (n : ℕ) (free : List Bool) → w ≡ g → with_free g [] ≡ with_free f [] → free ≡ map (is_free f) (range_with_len 0 n) → n ≡ length f.class.props
+    → with_free w free ≡ with_free f (map (is_free f) (props_of f))
+with_choice f g w n free is same chosen count =
+    ap (λ (x : FrameTerm). with_free x free) is ∙ ap (λ (x : FrameTerm). with_free x free) same ∙ ap (with_free f) (chosen ∙ ap (λ (k : ℕ). map (is_free f) (range_with_len 0 k)) count)

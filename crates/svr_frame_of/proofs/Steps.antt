@@ -2,18 +2,20 @@
 use Rattle.std.proofs.Common.{◌≡◌, ◌==◌, ◌<◌, ◌≤◌, ℕ, zero, suc, ◌+◌, ◌^◌, min, add-one, Bool, true, false, ◌&&◌, ◌||◌, refl, sym, ◌∙◌, ap, subst, List, [], ◌∷◌, ◌++◌, length, get_or, drop, drop-cons, append_assoc, arith}
 use Rattle.std.specs.Prelude.{if◌then◌else◌, nat_lt, nat_le, slice_index_or}
 use Rattle.std.proofs.lemmas.Bool.{ltb-true, ltb-false, ne_eqb}
-use Rattle.std.proofs.lemmas.List.{length-map, get_or_past}
+use Rattle.std.proofs.lemmas.List.{length-map, get_or_past, drop_all}
 use Rattle.std.proofs.lemmas.List.FromFn.{get_or-map-range_with_len, length-map-range_with_len}
 use Rattle.svr_typed.specs.declared.class.Prop.{Prop}
 use Rattle.svr_typed.specs.declared.class.TBlock.{TBlock}
 use Rattle.svr_typed.specs.declared.item.TItem.{TItem}
+use Rattle.svr_typed.specs.declared.expr.TExpr.{TExpr}
+use Rattle.svr_typed.specs.ExprTerm.{expr_term, expr_terms}
 use Rattle.svr_typed.specs.ItemTerm.{ItemTerms, no_items, more_items, item_term, item_terms}
 use Rattle.svr_typed.specs.ClassTerm.{BlockTerm, block_term, block_terms}
 use Rattle.svr_frame.specs.Frame.{FrameTerm, has_free_size}
 use Rattle.svr_frame.specs.Making.{is_declared_random, switched_on, followed_by, active_items}
 use Rattle.svr_frame_of.specs.declared.leaves.Leaves.{Leaves}
 use Rattle.svr_frame_of.specs.Callable.{with_free}
-use Rattle.svr_frame_of.specs.Freeing.{has_two, mark, no_leaves, both}
+use Rattle.svr_frame_of.specs.Freeing.{has_two, mark, no_leaves, both, is_sized, any_sized}
 
 and_none : (b : Bool) → (b && false) ≡ false
 and_none true = refl
@@ -110,6 +112,18 @@ pub two_of : (n c : ℕ) → c ≡ min 2 n → nat_le 2 c ≡ has_two n
 two_of zero c h = ap (nat_le 2) h
 two_of (suc zero) c h = ap (nat_le 2) h
 two_of (suc (suc n)) c h = let e : c ≡ 2 = omega (arith, h) in ap (nat_le 2) e
+
+-- a member that mentions the size, and one that does not
+pub sized_found : (f : FrameTerm) (x : TExpr) (all : List TExpr) (i : ℕ) (whole : Bool) → i < length all → x ≡ get_or all i x → is_sized f (expr_term x) ≡ true → any_sized f (expr_terms (drop i all)) ≡ whole → true ≡ whole
+sized_found f x all i whole less is met h =
+    ap (λ b. b || any_sized f (expr_terms (drop (i + 1) all))) (sym met) ∙ ap (λ (xs : List TExpr). any_sized f (expr_terms xs)) (dropped_at all i x x less is) ∙ h
+
+pub sized_more : (f : FrameTerm) (x : TExpr) (all : List TExpr) (i : ℕ) (whole : Bool) → i < length all → x ≡ get_or all i x → is_sized f (expr_term x) ≡ false → any_sized f (expr_terms (drop i all)) ≡ whole → any_sized f (expr_terms (drop (i + 1) all)) ≡ whole
+sized_more f x all i whole less is unmet h =
+    ap (λ b. b || any_sized f (expr_terms (drop (i + 1) all))) (sym unmet) ∙ ap (λ (xs : List TExpr). any_sized f (expr_terms xs)) (dropped_at all i x x less is) ∙ h
+
+pub sized_end : (f : FrameTerm) (all : List TExpr) (i : ℕ) (whole : Bool) → length all ≤ i → any_sized f (expr_terms (drop i all)) ≡ whole → false ≡ whole
+sized_end f all i whole past h = ap (λ (xs : List TExpr). any_sized f (expr_terms xs)) (sym (drop_all i all past)) ∙ h
 
 -- ---- the size that is marked
 

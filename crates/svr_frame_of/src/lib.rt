@@ -2,6 +2,7 @@
 #![tactic(auto)]
 
 mod free;
+mod held;
 mod leaves;
 mod make;
 mod object;

@@ -10,6 +10,7 @@ ghost use Rattle.svr_frame.specs.Sound.{IsSound};
 ghost use Rattle.svr_frame_of.specs.Callable.{state_of, IsCallable};
 
 use crate::free::with_free_sizes;
+use crate::held::both;
 use crate::object::{active_items, random_set, state_of};
 use crate::parts::{copy_class, copy_enums};
 use sqlite_items::Items;
@@ -35,11 +36,13 @@ fn framed(
     let blocks = class.blocks.as_slice();
     let in_line = call.with.as_slice();
     let kinds = design.enums.as_slice();
-    let state = state_of(alloc, world, object)?;
-    let random = random_set(alloc, props, &call.list, world, object)?;
-    let items = active_items(alloc, blocks, in_line, world, object)?;
-    let class = copy_class(alloc, class)?;
-    let enums = copy_enums(alloc, kinds)?;
+    let numbers = both(
+        state_of(alloc, world, object),
+        random_set(alloc, props, &call.list, world, object),
+    );
+    let items = active_items(alloc, blocks, in_line, world, object);
+    let copies = both(copy_class(alloc, class), copy_enums(alloc, kinds));
+    let ((state, random), (items, (class, enums))) = both(numbers, both(items, copies))?;
     let free_size = Items::new(alloc);
     Ok(Frame {
         class,

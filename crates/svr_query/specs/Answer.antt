@@ -18,6 +18,10 @@ pub record SolverView : Type 0 where
   pub steps : List StepView
   pub bits : Option ℕ
 
+-- a solver with so many variables, over these clauses
+abbrev pub solver_of : ℕ → List (List Lit) → List StepView → Option ℕ → SolverView
+solver_of vars clauses steps bits = record { vars = vars; clauses = clauses; steps = steps; bits = bits }
+
 -- the log refutes: it has a goal, and is accepted with it
 abbrev pub IsRefutation : List (List Lit) → List Lit → RefutationView → Type 0
 IsRefutation ks assume log = IsSome log.goal × (verdict_of ks assume log.steps log.goal ≡ Accepted)

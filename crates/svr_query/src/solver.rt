@@ -6,8 +6,8 @@ ghost use Rattle.svr_chain.specs.Clauses.{AreWithin, is_tautology};
 ghost use Rattle.svr_chain.specs.Log.{are_denied};
 ghost use Rattle.svr_cdcl.specs.Learned.{Derives};
 ghost use Rattle.svr_chain.specs.Settled.{AreSettled};
-ghost use Rattle.svr_query.specs.Answer.{AreGiven, IsAnswer, IsModel, IsRefutation};
-ghost use Rattle.svr_query.specs.Bits.{AreFirst};
+ghost use Rattle.svr_query.specs.Answer.{AreGiven, IsAnswer, IsModel, IsRefutation, solver_of};
+ghost use Rattle.svr_query.specs.Bits.{AreBits, AreFirst};
 ghost use Rattle.svr_query.specs.Logged.{AreValues, AreWished, IsLogged};
 
 use crate::limit::{Limit, search_within};
@@ -114,6 +114,50 @@ fn conclude(
     })
 }
 
+/// The answer of the search over these clauses, whose steps go behind those that were derived before.
+fn searched(
+    cnf: &[Clause],
+    search: &mut Search,
+    steps: &mut Vec<Step>,
+    assume: &[Lit],
+    prefer: &[bool],
+    limit: Limit,
+) -> Result<Answer, NoMemory>
+    requires within { AreWithin search.old.vars assume.now }
+    requires apart { is_tautology assume.now ≡ false }
+    requires prefer { length prefer.now ≡ search.old.vars }
+    requires logged { IsLogged cnf.now steps.old.items search.old }
+    requires bits { AreBits limit.bits search.old.vars cnf.now }
+    ensures vars { search.new.vars ≡ search.old.vars }
+    ensures logged { IsLogged cnf.now steps.new.items search.new }
+    ensures begins { take (length steps.old.items) steps.new.items ≡ steps.old.items }
+    ensures few { length steps.new.items ≤ length steps.old.items + limit.steps }
+    ensures answer { IfOk result (IsAnswer (solver_of search.old.vars cnf.now steps.old.items limit.bits) assume.now limit.steps) }
+{
+    let alloc = *steps.allocator();
+    let first = steps.len() as u64;
+    let found = search_within(alloc, cnf, search, steps, assume, prefer, limit)?;
+    let _ = search.level();
+    match found {
+        Found::Satisfied => {
+            let values = values_of(alloc, search, prefer)?;
+            Ok(Answer::Satisfied(values))
+        }
+        Found::Refuted(explained) => {
+            let log = conclude(alloc, cnf, search, steps.as_slice(), assume, explained)?;
+            Ok(Answer::Refuted(log))
+        }
+        Found::Spent => {
+            let copies = copy_steps(alloc, steps.as_slice())?;
+            let log = Refutation {
+                steps: copies,
+                goal: None,
+            };
+            Ok(Answer::Spent { log, first })
+        }
+    }
+}
+
 impl Solver {
     /// A solver over the clauses of a formula, with no step derived yet.
     pub fn new(alloc: Global, cnf: Cnf) -> Result<Solver, NoMemory>
@@ -199,43 +243,18 @@ impl Solver {
         ensures few { length self.new.steps ≤ length self.old.steps + budget }
         ensures answer { IfOk result (IsAnswer self.old assume.now budget) }
     {
-        let alloc = *self.steps.allocator();
-        let first = self.steps.len() as u64;
         let limit = Limit {
             steps: budget,
             bits: self.bits,
         };
-        let found = search_within(
-            alloc,
-            self.cnf.clauses.as_slice(),
+        let cnf = self.cnf.clauses.as_slice();
+        searched(
+            cnf,
             &mut self.search,
             &mut self.steps,
             assume,
             prefer,
             limit,
-        )?;
-        let _ = self.search.level();
-        match found {
-            Found::Satisfied => {
-                let values = values_of(alloc, &self.search, prefer)?;
-                return Ok(Answer::Satisfied(values));
-            }
-            Found::Refuted(explained) => {
-                let log = conclude(
-                    alloc,
-                    self.cnf.clauses.as_slice(),
-                    &self.search,
-                    self.steps.as_slice(),
-                    assume,
-                    explained,
-                )?;
-                return Ok(Answer::Refuted(log));
-            }
-            Found::Spent => {
-                let steps = copy_steps(alloc, self.steps.as_slice())?;
-                let log = Refutation { steps, goal: None };
-                return Ok(Answer::Spent { log, first });
-            }
-        }
+        )
     }
 }

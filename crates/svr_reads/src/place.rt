@@ -139,7 +139,6 @@ fn covers_property(prop: u32, set: &Sought<'_>) -> bool
 
 /// Whether an expression, its indexes included, mentions the element.
 #[cycle(placed)]
-#[tactic(auto, using(crate::proofs::Appended::any_append))]
 pub(crate) fn placed(e: &TExpr, env: &Env, set: &Sought<'_>) -> bool
     requires typed { IsTyped (expr_term e.now) }
     requires reads { CanRead (reading_of set.now.state.now) (length env.now) (expr_term e.now) }
@@ -193,7 +192,6 @@ pub(crate) fn placed(e: &TExpr, env: &Env, set: &Sought<'_>) -> bool
 
 /// Whether the body of a reduction mentions the element, at some element of the array.
 #[cycle(placed)]
-#[tactic(auto, using(crate::proofs::Appended::none_more, crate::proofs::Appended::some_turn))]
 fn placed_in_turns(array: u32, body: &TExpr, env: &Env, set: &Sought<'_>) -> bool
     requires typed { IsTyped (expr_term body.now) }
     requires room { length env.now < LOOP_LIMIT }
@@ -209,7 +207,6 @@ fn placed_in_turns(array: u32, body: &TExpr, env: &Env, set: &Sought<'_>) -> boo
 }
 
 #[cycle(placed)]
-#[tactic(auto, using(crate::proofs::Appended::any_append))]
 fn placed_in_exprs(parts: &[TExpr], env: &Env, set: &Sought<'_>) -> bool
     requires typed { AreTyped (expr_terms parts.now) }
     requires reads { AllCanRead (reading_of set.now.state.now) (length env.now) (expr_terms parts.now) }
@@ -224,7 +221,6 @@ fn placed_in_exprs(parts: &[TExpr], env: &Env, set: &Sought<'_>) -> bool
 }
 
 #[cycle(placed)]
-#[tactic(auto, using(crate::proofs::Appended::any_append))]
 fn placed_in_ranges(members: &[TRange], env: &Env, set: &Sought<'_>) -> bool
     requires typed { RangesAreTyped (range_terms members.now) }
     requires reads { RangesCanRead (reading_of set.now.state.now) (length env.now) (range_terms members.now) }
@@ -239,7 +235,6 @@ fn placed_in_ranges(members: &[TRange], env: &Env, set: &Sought<'_>) -> bool
 }
 
 #[cycle(placed)]
-#[tactic(auto, using(crate::proofs::Appended::any_append))]
 fn placed_in_range(range: &TRange, env: &Env, set: &Sought<'_>) -> bool
     requires typed { RangeIsTyped (range_term range.now) }
     requires reads { RangeCanRead (reading_of set.now.state.now) (length env.now) (range_term range.now) }

@@ -1,5 +1,5 @@
 -- The pass, one soft literal at a time
-use Rattle.std.proofs.Common.{◌≡◌, ℕ, suc, zero, ◌+◌, ◌-◌, ◌<◌, ◌≤◌, Bool, true, false, ◌&&◌, ◌||◌, nat_eq, nat_lt, List, [], ◌∷◌, ◌++◌, length, map, filter, refl, ap, sym, ◌∙◌, subst, arith, get_or, take, All, inl, inr}
+use Rattle.std.proofs.Common.{◌≡◌, ℕ, suc, zero, ◌+◌, ◌-◌, ◌<◌, ◌≤◌, Bool, true, false, ◌&&◌, ◌||◌, nat_eq, nat_lt, List, [], ◌∷◌, ◌++◌, length, map, filter, refl, ap, sym, ◌∙◌, subst, arith, get_or, take, All, inl, inr, append-nil}
 use Rattle.std.specs.List.{list_all}
 use Rattle.std.proofs.lemmas.Bool.{and_from, or_left, or_right, both_ways, false_from_ne_true, false≢true, cases_lt, cond-true, cond-false, ne_eqb}
 use Rattle.std.proofs.lemmas.List.{take-take, length_push, get_or_append_left, get_or_at}
@@ -281,3 +281,8 @@ pub begins-then : {X : Type 0} (xs ys zs : List X) → take (length xs) ys ≡ x
 begins-then xs ys zs h g =
     let o : length xs ≤ length ys = longer-from xs ys h in
     sym (take-take (length xs) (length ys) zs o) ∙ (ap (take (length xs)) g ∙ h)
+
+-- where there is no soft literal the base is all
+pub alone : (base soft : List Lit) → length soft ≡ 0 → base ++ soft ≡ base
+alone base [] e = append-nil base
+alone base (l ∷ soft) e = absurd (cc)

@@ -1,2 +1,3 @@
 pub mod Kept
+pub mod Later
 pub mod End

@@ -5,6 +5,7 @@ ghost use Rattle.svr_chain.specs.Clauses.{AreWithin, is_tautology};
 ghost use Rattle.svr_query.specs.Answer.{IsModel};
 ghost use Rattle.svr_soft.specs.End.{AllKeptBy, IsPassEnd};
 ghost use Rattle.svr_soft.specs.Kept.{ranks_to};
+ghost use Rattle.svr_soft.specs.Later.{IsLater};
 
 use crate::memory::NoMemory;
 use std::alloc::Global;
@@ -44,7 +45,7 @@ fn ranks(alloc: Global, count: usize) -> Result<Vec<u32>, NoMemory>
 
 /// Keeps each soft literal that can hold together with the clauses, the base and those of the kept ones that stand before it.
 ///
-/// One question tries all of them at once, and only where that fails there is one for each. After
+/// One question tries all of them at once, and only where that fails, and there are some, there is one for the base and one for each. After
 /// want of memory the solver has its clauses and its earlier steps, and can be asked again.
 pub fn pass(
     alloc: Global,
@@ -77,7 +78,20 @@ pub fn pass(
                 values,
             })
         }
-        Answer::Refuted(_) | Answer::Spent { .. } => {
+        Answer::Refuted(refutation) => {
+            if soft.is_empty() {
+                return Ok(PassEnd::BaseRefuted(refutation));
+            }
+            pass_in_turn(alloc, solver, base, soft, prefer, budget)
+        }
+        Answer::Spent { log, first } => {
+            if soft.is_empty() {
+                return Ok(PassEnd::Spent {
+                    rank: None,
+                    log,
+                    first,
+                });
+            }
             pass_in_turn(alloc, solver, base, soft, prefer, budget)
         }
     }
@@ -103,18 +117,42 @@ fn pass_in_turn(
     ensures begins { take (length solver.old.steps) solver.new.steps ≡ solver.old.steps }
     ensures end { IfOk result (IsPassEnd solver.old base.now soft.now budget) }
 {
-    let mut assumed = Vec::from_slice(alloc, base)?;
-    let mut values = match solver.ask(assumed.as_slice(), prefer, budget)? {
-        Answer::Satisfied(values) => values,
-        Answer::Refuted(log) => return Ok(PassEnd::BaseRefuted(log)),
-        Answer::Spent { log, first } => {
-            return Ok(PassEnd::Spent {
-                rank: None,
-                log,
-                first,
-            });
+    let answer = solver.ask(base, prefer, budget)?;
+    match answer {
+        Answer::Satisfied(values) => {
+            soft_in_turn(alloc, solver, base, soft, values, prefer, budget)
         }
-    };
+        Answer::Refuted(log) => Ok(PassEnd::BaseRefuted(log)),
+        Answer::Spent { log, first } => Ok(PassEnd::Spent {
+            rank: None,
+            log,
+            first,
+        }),
+    }
+}
+
+/// A question for each soft literal, behind the one for the base, which these values meet.
+fn soft_in_turn(
+    alloc: Global,
+    solver: &mut Solver,
+    base: &[Lit],
+    soft: &[Lit],
+    met: Vec<bool>,
+    prefer: &[bool],
+    budget: u64,
+) -> Result<PassEnd, NoMemory>
+    requires few { length soft.now < 2 ^ 32 }
+    requires within { AreWithin solver.old.vars (base.now ++ soft.now) }
+    requires apart { is_tautology (base.now ++ soft.now) ≡ false }
+    requires prefer { length prefer.now ≡ solver.old.vars }
+    requires budget { 1 ≤ budget }
+    requires values { length met.items ≡ solver.old.vars }
+    requires model { IsModel solver.old.clauses base.now met.items }
+    ensures later { IsLater solver.old solver.new }
+    ensures end { IfOk result (IsPassEnd solver.old base.now soft.now budget) }
+{
+    let mut assumed = Vec::from_slice(alloc, base)?;
+    let mut values = met;
     let mut kept = Vec::new(alloc);
     let mut dropped = Vec::new(alloc);
     let mut rank: u32 = 0;
@@ -122,8 +160,9 @@ fn pass_in_turn(
         rank += 1;
         let stands = assumed.len();
         assumed.push(*lit)?;
+        let answer = solver.ask(assumed.as_slice(), prefer, budget)?;
         // Each arm goes on by itself, so that the prover sees no join.
-        match solver.ask(assumed.as_slice(), prefer, budget)? {
+        match answer {
             Answer::Satisfied(found) => {
                 values = found;
                 kept.push(rank)?;

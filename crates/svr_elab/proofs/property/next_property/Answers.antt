@@ -5,5 +5,6 @@ use Rattle.svr_elab.proofs.property.next_property.Goals as goal
 
 pub returns-in_ok-all-in-Some : goal.returns-in_ok-all-in-Some
 returns-in_ok-all-in-Some c =
-    known_next prop_of spec.property c.args.known c.in_ok-all-in-Some.all c.args.props.now.entries c.args.place (c.in-Some.name.now, c.in-Some.entry.now) c.in_ok-next-in-Some.next
-    c.in-Some.ensures.entry c.in_ok-next-in-Some.ensures c.in_ok-all-in-Some.ensures
+    let x = c.in_ok-known-in-Some in
+    known_next prop_of spec.property c.args.known c.in_ok-all-in-Some.all c.args.props.now.entries c.args.place (c.in-Some.name.now, c.in-Some.entry.now) x.next
+    c.in-Some.ensures.entry (rw x.ensures.made at c.property-next.ensures) (rw x.ensures.held at c.in_ok-all-in-Some.ensures)

@@ -9,10 +9,12 @@ use Rattle.svr_elab_block.proofs.body.and_block.Goals as goal
 
 pub returns-then-is_among : goal.returns-then-is_among
 returns-then-is_among c =
-    again_is (space_of c.args.names.now) c.outside.result (body_part c.args.part) (body_part c.with_fault.result) (block_tree c.args.block.now) (items_part c.in_ok-items.items) (item_trees c.as_slice.result.now) c.name.result.now c.is_among.result
-    c.name.ensures c.is_among.ensures c.if-is_among.true c.in_ok-items.ensures (ap item_trees c.as_slice.ensures) c.outside.ensures c.with_fault.ensures
+    again_is (space_of c.args.names.now) c.outside.result (body_part c.args.part) (body_part c.with_fault.result) (block_tree c.args.block.now) (items_part c.in_ok-part.items) (item_trees c.as_slice.result.now) c.name.result.now c.is_among.result
+    c.name.ensures (rw c.in_ok-part.ensures.held at c.is_among.ensures) c.if-is_among.true (rw c.in_ok-part.ensures.made at c.items-items.ensures) (ap item_trees c.as_slice.ensures) c.outside.ensures
+    (rw c.in_ok-part.ensures.held at c.with_fault.ensures)
 
 pub returns-in_ok-with_block : goal.returns-in_ok-with_block
 returns-in_ok-with_block c =
-    stands_is (space_of c.args.names.now) c.outside.result (body_part c.args.part) (body_part c.in_ok-with_block.field-0) (block_tree c.args.block.now) (items_part c.in_ok-items.items) (item_trees c.as_slice.result.now) c.name.result.now c.is_among.result
-    c.name.ensures c.is_among.ensures c.if-is_among.false c.in_ok-items.ensures (ap item_trees c.as_slice.ensures) c.outside.ensures c.in_ok-with_block.ensures
+    stands_is (space_of c.args.names.now) c.outside.result (body_part c.args.part) (body_part c.in_ok-with_block.field-0) (block_tree c.args.block.now) (items_part c.in_ok-part.items) (item_trees c.as_slice.result.now) c.name.result.now c.is_among.result
+    c.name.ensures (rw c.in_ok-part.ensures.held at c.is_among.ensures) c.if-is_among.false (rw c.in_ok-part.ensures.made at c.items-items.ensures) (ap item_trees c.as_slice.ensures) c.outside.ensures
+    (rw c.in_ok-part.ensures.held at c.in_ok-with_block.ensures)

@@ -1,29 +1,43 @@
-use Rattle.std.proofs.Common.{map, ap}
+use Rattle.std.proofs.Common.{◌+◌, List, length, map, ap, ◌∙◌}
 use Rattle.svr_token.specs.Names.{names_of}
-use Rattle.svr_tree.specs.DeclTree.{class_item_tree, class_tree}
-use Rattle.svr_elab_names.specs.Tables.{global_of, class_of, bytes_of}
+use Rattle.svr_tree.specs.DeclTree.{class_tree}
+use Rattle.svr_elab_names.specs.declared.ClassNames.{ClassNames}
+use Rattle.svr_elab_names.specs.Tables.{global_of, class_of}
 use Rattle.svr_elab_class.specs.Seen.{class_part}
-use Rattle.svr_elab_class.proofs.Members.{class_added, class_inside}
-use Rattle.svr_elab_class.proofs.Declared.{class_declared, class_last}
+use Rattle.svr_elab_class.proofs.Members.{class_added}
+use Rattle.svr_elab_class.proofs.Declared.{class_declared}
 use Rattle.svr_elab_class.proofs.class.class_decl.Goals as goal
+
+pub class_inside-part-requires-clause-classes : goal.class_inside-part-requires-clause-classes
+class_inside-part-requires-clause-classes c = rw c.in_ok-globals.ensures.classes c.requires.classes
+
+pub class_inside-part-requires-clause-members : goal.class_inside-part-requires-clause-members
+class_inside-part-requires-clause-members c =
+    let g = c.args.globals in
+    class_added (names_of c.args.names.now) (map global_of g.names.entries) _ (map class_of g.classes) _ _ _ c.in_ok-globals.ensures.names c.requires.members
 
 pub returns-clause-value : goal.returns-clause-value
 returns-clause-value c =
     let g = c.args.globals in
-    class_declared (names_of c.args.names.now) (map global_of g.names.entries) _ (map class_of g.classes) _ _ _ _ g.enums _ g.fault _ _ _ _ _ _ _ (class_tree c.args.decl.now) _
-    _ _ _ _ _ _ (class_part c.in_ok-part.part) (class_of c.in_ok-class.class)
-    c.name-spelled.ensures (ap (map class_of) c.as_slice.ensures) c.number_behind-number.ensures c.base_at-base.ensures c.base_fault-base_fault.ensures c.double-twice.ensures
-    (ap (map bytes_of) c.new.ensures.empty) (ap (map class_item_tree) c.as_slice-2.ensures) c.in_ok-later.ensures c.in_ok-table.ensures
-    c.as_slice-3.ensures (ap (map class_of) c.as_slice-4.ensures) (ap (map class_item_tree) c.as_slice-5.ensures) c.in_ok-part.ensures
-    c.label_fault.ensures c.earlier-own.ensures c.earlier.ensures c.earlier-2.ensures c.earlier-fault.ensures
-    (ap (map class_of) c.as_slice-6.ensures) c.in_ok-class.ensures (class_last g.classes _ c.in_ok-class.class c.in_ok-push.ensures.ok)
+    let h = c.in_ok-globals.globals in
+    let same = c.in_ok-globals-2.ensures.held in
+    let last = c.in_ok-with_class.ensures in
+    class_declared (names_of c.args.names.now) (map global_of g.names.entries) (map global_of h.names.entries) _ (map class_of g.classes) (map class_of h.classes) _ g.enums h.enums _ g.fault h.fault _ _ _ _ _ _ _ _
+    (class_tree c.args.decl.now) _ _ (class_part c.in_ok-globals-2.part)
+    c.name-spelled.ensures c.base_at-base.ensures c.base_fault-base_fault.ensures c.double-twice.ensures
+    c.in_ok-globals.ensures.names (ap (map class_of) c.in_ok-globals.ensures.classes) c.in_ok-globals.ensures.enums c.in_ok-globals.ensures.fault
+    (rw c.in_ok-globals-2.ensures.made at c.class_inside-part.ensures)
+    c.label_fault.ensures c.earlier-own.ensures c.earlier.ensures c.earlier-2.ensures (rw same at c.earlier-fault.ensures)
+    (rw same at last.names) (rw same at last.classes) (rw same at last.enums) last.fault
 
 pub returns-clause-members : goal.returns-clause-members
 returns-clause-members c =
     let g = c.args.globals in
-    class_added (names_of c.args.names.now) (map global_of g.names.entries) _ (map class_of g.classes) _ _ _ c.in_ok-table.ensures c.requires.members
+    class_added (names_of c.args.names.now) (map global_of g.names.entries) _ (map class_of g.classes) _ _ _
+    ((rw c.in_ok-globals-2.ensures.held at c.in_ok-with_class.ensures.names) ∙ c.in_ok-globals.ensures.names) c.requires.members
 
-pub class_body-requires-clause-members : goal.class_body-requires-clause-members
-class_body-requires-clause-members c =
-    let g = c.args.globals in
-    class_inside (names_of c.args.names.now) (map global_of g.names.entries) _ (map class_of g.classes) _ _ _ _ _ c.in_ok-table.ensures c.requires.members
+pub returns-clause-enums : goal.returns-clause-enums
+returns-clause-enums c = (rw c.in_ok-globals-2.ensures.held at c.in_ok-with_class.ensures.enums) ∙ c.in_ok-globals.ensures.enums
+
+pub returns-clause-count : goal.returns-clause-count
+returns-clause-count c = (rw c.in_ok-globals-2.ensures.held at c.in_ok-with_class.ensures.count) ∙ ap (λ (ks : List ClassNames). length ks + 1) c.in_ok-globals.ensures.classes

@@ -7,5 +7,8 @@ use Rattle.svr_elab_class.proofs.property.declarator.Goals as goal
 
 pub returns : goal.returns
 returns c =
-    declarator_is (head_of c.args.head.now) (class_part c.args.part) c.args.rand (used_of c.args.used) (declarator_tree c.args.decl.now) _ (dims_part c.in_ok-dims.dims) _ _ _ _ _
-    c.in_ok-and_property.ensures c.in_ok-dims.ensures (ap (map dimension_tree) c.as_slice.ensures) c.in_ok-first.ensures.number c.in_ok-first.ensures.fault c.kind.ensures c.behind-space.ensures.space
+    let first = c.in_ok-part.ensures in
+    let second = c.in_ok-part-2.ensures in
+    declarator_is (head_of c.args.head.now) (class_part c.args.part) c.args.rand (used_of c.args.used) (declarator_tree c.args.decl.now) _ (dims_part c.in_ok-part.dims) _ _ _ _ _ _
+    (rw (second.held, first.held) at c.in_ok-and_property.ensures) (rw first.made at c.dims_of-dims.ensures) (ap (map dimension_tree) c.as_slice.ensures) c.behind.ensures.space
+    (rw second.made at c.initial_value-first.ensures.number) (rw second.made at c.initial_value-first.ensures.fault) c.kind.ensures (rw first.held at c.behind-2.ensures.space)

@@ -5,4 +5,5 @@ use Rattle.svr_elab_list.proofs.right.patterned_at.Goals as goal
 
 pub returns-clause-value : goal.returns-clause-value
 returns-clause-value c =
-    patterned_is (part_of c.args.target) c.args.at (values_part c.in_ok-right.right) _ (stmt_part c.patterned.result) c.patterned.ensures.value c.in_ok-right.ensures
+    let x = c.in_ok-target in
+    patterned_is (part_of c.args.target) c.args.at (values_part x.right) _ (stmt_part c.patterned.result) (rw x.ensures.held at c.patterned.ensures.value) (rw x.ensures.made at c.values-right.ensures)

@@ -6,4 +6,5 @@ use Rattle.svr_elab_list.proofs.right.resized_at.Goals as goal
 
 pub returns-clause-value : goal.returns-clause-value
 returns-clause-value c =
-    resized_is (part_of c.args.target) (constant_part c.in_ok-right.right) _ (stmt_part c.resized.result) c.resized.ensures.value c.in_ok-right.ensures.value
+    let x = c.in_ok-target in
+    resized_is (part_of c.args.target) (constant_part x.right) _ (stmt_part c.resized.result) (rw x.ensures.held at c.resized.ensures.value) (rw x.ensures.made at c.constant_at.ensures.value)

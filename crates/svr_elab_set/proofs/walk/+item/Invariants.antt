@@ -30,7 +30,10 @@ abbrev pub decreases-branch_else : goal.decreases-branch_else
 decreases-branch_else l = 4 * max (size-Set l.yes.now) (size-Set l.no.now) + 2
 
 abbrev pub decreases-foreach : goal.decreases-foreach
-decreases-foreach l = 4 * size-Set l.body.now + 2
+decreases-foreach l = 4 * size-Set l.body.now + 3
+
+abbrev pub decreases-in_loops : goal.decreases-in_loops
+decreases-in_loops l = 4 * size-Set l.body.now + 2
 
 abbrev pub decreases-set : goal.decreases-set
 decreases-set l = 4 * size-Set l.set.now + 1

@@ -7,5 +7,6 @@ use Rattle.svr_elab_set.proofs.walk.dealt.Goals as goal
 
 pub returns : goal.returns
 returns c =
-    dealt_is (space_of c.args.names.now) c.args.around c.args.soft c.args.at (item_part c.plain_item.result) (part_of c.in_ok-part.part) (dist_part c.in_ok-members.members)
-    (expr_tree c.args.e.now) c.args.dist.now c.as_slice.result.now c.plain_item.ensures c.in_ok-part.ensures c.in_ok-members.ensures c.as_slice.ensures
+    dealt_is (space_of c.args.names.now) c.args.around c.args.soft c.args.at (item_part c.plain_item.result) (part_of c.in_ok-part.part) (dist_part c.in_ok-part.members)
+    (expr_tree c.args.e.now) c.args.dist.now c.as_slice.result.now c.plain_item.ensures
+    (rw c.in_ok-part.ensures.first at c.value-part.ensures) (rw c.in_ok-part.ensures.second at c.dist_items.ensures) c.as_slice.ensures

@@ -10,7 +10,8 @@ use Rattle.svr_elab_type.proofs.Declared.{members_more, rest_is}
 use Rattle.svr_elab_type.proofs.enums.enum_members.Goals as goal
 
 pub and_member-requires-clause-limit : goal.and_member-requires-clause-limit
-and_member-requires-clause-limit c = c.in_ok-number.ensures.limit (length c.loop-member.part.members) c.loop-member.invariant.limit
+and_member-requires-clause-limit c =
+    rw c.in_ok-before.ensures.held (rw c.in_ok-before.ensures.made at (c.member_number-number.ensures.limit (length c.loop-member.part.members) c.loop-member.invariant.limit))
 
 pub loop-member-preserved : goal.loop-member-preserved
 loop-member-preserved c =
@@ -26,8 +27,8 @@ loop-member-preserved c =
     let Known : List MemberTree → Type 0 = λ ts. enum_members first_one c.args.base p ts ≡ whole in
     record {
       limit = c.in_ok-part.ensures.limit;
-      members = c.in_ok-part.ensures.members cs c.loop-member.invariant.members;
+      members = c.in_ok-part.ensures.members cs (rw c.in_ok-before.ensures.held c.loop-member.invariant.members);
       fits = (subst Fits rest c.loop-member.invariant.fits).1;
-      known = members_more c.args.base p (enum_part text cs c.in_ok-part.part) whole (constant_part c.in_ok-number.number) (space_of c.declaring-space.result) (member_tree m) (map member_tree (drop (i + 1) list))
-          (c.in_ok-part.ensures.part cs) c.in_ok-number.ensures.value c.declaring-space.ensures.space (subst Known rest c.loop-member.invariant.known);
+      known = members_more c.args.base p (enum_part text cs c.in_ok-part.part) whole (constant_part c.in_ok-before.number) (space_of c.declaring.result) (member_tree m) (map member_tree (drop (i + 1) list))
+          (rw c.in_ok-before.ensures.held at (c.in_ok-part.ensures.part cs)) (rw c.in_ok-before.ensures.made at c.member_number-number.ensures.value) c.declaring.ensures.space (subst Known rest c.loop-member.invariant.known);
     }

@@ -10,6 +10,21 @@ pub returns-clause-value : goal.returns-clause-value
 returns-clause-value c =
     let text = names_of c.args.names.now in
     let g = c.args.globals in
-    base_is _ (globals_part text g) c.args.name (type_part c.in_ok-base.base) _ (map member_tree c.args.decl.now.members) _ (option_map integer_tree c.args.decl.now.base)
-    c.in_ok-enum_type.ensures.value (ap (map member_tree) c.as_slice-2.ensures) c.in_ok-base.ensures.value
-    (named_in _ text (map global_of g.names.entries) _ (map class_of g.classes) c.declaring-space.ensures.space (ap (map class_of) c.as_slice.ensures))
+    base_is _ (globals_part text g) c.args.name (type_part c.in_ok-globals.base) _ (map member_tree c.args.decl.now.members) _ (option_map integer_tree c.args.decl.now.base)
+    (rw c.in_ok-globals.ensures.held at c.in_ok-enum_type.ensures.value) (ap (map member_tree) c.as_slice-2.ensures) (rw c.in_ok-globals.ensures.made at c.base_type-base.ensures.value)
+    (named_in _ text (map global_of g.names.entries) _ (map class_of g.classes) c.declaring.ensures.space (ap (map class_of) c.as_slice.ensures))
+
+pub returns-clause-enums : goal.returns-clause-enums
+returns-clause-enums c = rw c.in_ok-globals.ensures.held at c.in_ok-enum_type.ensures.enums
+
+pub returns-clause-classes : goal.returns-clause-classes
+returns-clause-classes c = rw c.in_ok-globals.ensures.held at c.in_ok-enum_type.ensures.classes
+
+pub enum_type-requires-clause-enums : goal.enum_type-requires-clause-enums
+enum_type-requires-clause-enums c = rw c.in_ok-globals.ensures.held c.requires.enums
+
+pub enum_type-requires-clause-base : goal.enum_type-requires-clause-base
+enum_type-requires-clause-base c = rw c.in_ok-globals.ensures.made at c.base_type-base.ensures.fits
+
+pub enum_type-requires-clause-members : goal.enum_type-requires-clause-members
+enum_type-requires-clause-members c = rw c.in_ok-globals.ensures.held c.requires.members

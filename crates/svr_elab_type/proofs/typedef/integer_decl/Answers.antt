@@ -10,5 +10,18 @@ pub returns-clause-value : goal.returns-clause-value
 returns-clause-value c =
     let text = names_of c.args.names.now in
     let g = c.args.globals in
-    integer_is _ (globals_part text g) c.args.name (type_part c.in_ok-part.part) _ (integer_tree c.args.kind.now) c.in_ok-plain_type.ensures.value c.in_ok-part.ensures.value
-    (named_in _ text (map global_of g.names.entries) _ (map class_of g.classes) c.declaring-space.ensures.space (ap (map class_of) c.as_slice.ensures))
+    integer_is _ (globals_part text g) c.args.name (type_part c.in_ok-globals.part) _ (integer_tree c.args.kind.now)
+    (rw c.in_ok-globals.ensures.held at c.in_ok-plain_type.ensures.value) (rw c.in_ok-globals.ensures.made at c.integer_type-part.ensures.value)
+    (named_in _ text (map global_of g.names.entries) _ (map class_of g.classes) c.declaring.ensures.space (ap (map class_of) c.as_slice.ensures))
+
+pub returns-clause-enums : goal.returns-clause-enums
+returns-clause-enums c = rw c.in_ok-globals.ensures.held at c.in_ok-plain_type.ensures.enums
+
+pub returns-clause-classes : goal.returns-clause-classes
+returns-clause-classes c = rw c.in_ok-globals.ensures.held at c.in_ok-plain_type.ensures.classes
+
+pub plain_type-requires-clause-kind : goal.plain_type-requires-clause-kind
+plain_type-requires-clause-kind c = rw c.in_ok-globals.ensures.made at c.integer_type-part.ensures.fits
+
+pub plain_type-requires-clause-members : goal.plain_type-requires-clause-members
+plain_type-requires-clause-members c = rw c.in_ok-globals.ensures.held c.requires.members

@@ -9,8 +9,15 @@ use Rattle.svr_elab_unit.proofs.Forms.{rest_is}
 use Rattle.svr_elab_unit.proofs.Runs.{tops_more}
 use Rattle.svr_elab_unit.proofs.top.tops.Goals as goal
 
+pub and_top-requires-clause-before : goal.and_top-requires-clause-before
+and_top-requires-clause-before c = rw c.in_ok-before.ensures.held c.loop-each.invariant.most
+
+pub and_top-requires-clause-next : goal.and_top-requires-clause-next
+and_top-requires-clause-next c = rw c.in_ok-before.ensures.made at c.stmt-next.ensures.most
+
 pub loop-each-preserved : goal.loop-each-preserved
 loop-each-preserved c =
+    let x = c.in_ok-before in
     let n = space_of c.args.names.now in
     let list = c.args.list.now in
     let i = c.loop-each.each-index in
@@ -24,6 +31,6 @@ loop-each-preserved c =
     record {
       fits = (subst Fits rest c.loop-each.invariant.fits).1;
       most = c.in_ok-part.ensures.most;
-      same = tops_more n old _ _ p c.in_ok-part.part _ (stmt_part c.in_ok-next.next) (stmt_tree t) (map stmt_tree (drop (i + 1) list)) whole
-          c.in_ok-next.ensures.made c.in_ok-part.ensures.value c.stmt_start.ensures c.in_ok-next.ensures.value (subst Known rest c.loop-each.invariant.same);
+      same = tops_more n old _ _ p c.in_ok-part.part _ (stmt_part x.next) (stmt_tree t) (map stmt_tree (drop (i + 1) list)) whole
+          (rw x.ensures.made at c.stmt-next.ensures.made) (rw x.ensures.held at c.in_ok-part.ensures.value) c.stmt_start.ensures (rw x.ensures.made at c.stmt-next.ensures.value) (subst Known rest c.loop-each.invariant.same);
     }

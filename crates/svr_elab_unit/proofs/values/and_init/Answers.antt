@@ -1,6 +1,17 @@
+use Rattle.std.proofs.Common.{◌≡◌, arith}
 use Rattle.svr_elab_stmt.specs.Seen.{stmt_part, stmts_part}
 use Rattle.svr_elab_unit.proofs.Forms.{next_stmt}
 use Rattle.svr_elab_unit.proofs.values.and_init.Goals as goal
 
+pub and_next-requires-clause-before : goal.and_next-requires-clause-before
+and_next-requires-clause-before c = rw c.in_ok-stmts.ensures.held c.requires.count
+
+pub and_next-requires-clause-next : goal.and_next-requires-clause-next
+and_next-requires-clause-next c =
+    let once : c.in_ok-stmts.stmt.count ≡ 1 = rw c.in_ok-stmts.ensures.made at c.init_made-stmt.ensures.once in
+    omega (arith, once)
+
 pub returns-clause-value : goal.returns-clause-value
-returns-clause-value c = next_stmt (stmts_part c.args.made.now.keys c.args.stmts) (stmt_part c.in_ok-stmt.stmt) _ _ c.in_ok-all.ensures.value c.in_ok-stmt.ensures.value
+returns-clause-value c =
+    let x = c.in_ok-stmts in
+    next_stmt (stmts_part c.args.made.now.keys c.args.stmts) (stmt_part x.stmt) _ _ (rw x.ensures.held at c.in_ok-all.ensures.value) (rw x.ensures.made at c.init_made-stmt.ensures.value)

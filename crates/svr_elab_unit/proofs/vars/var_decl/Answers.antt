@@ -8,5 +8,11 @@ use Rattle.svr_elab_unit.proofs.vars.var_decl.Goals as goal
 
 pub returns-clause-value : goal.returns-clause-value
 returns-clause-value c =
-    decl_is (space_of c.args.names.now) (vars_part c.args.part) (vars_part c.in_ok-typed.typed) (vars_part c.in_ok-all.all) (used_part c.in_ok-used.used) _ (type_tree c.args.decl.now.kind) (map var_declarator_tree c.args.decl.now.vars) _
-    c.in_ok-all.ensures.value c.in_ok-typed.ensures.value c.stand_of-stand.ensures c.in_ok-used.ensures (ap (map var_declarator_tree) c.as_slice.ensures)
+    let x = c.in_ok-part in
+    decl_is (space_of c.args.names.now) (vars_part c.args.part) (vars_part c.in_ok-typed.typed) (vars_part c.in_ok-all.all) (used_part x.used) _ (type_tree c.args.decl.now.kind) (map var_declarator_tree c.args.decl.now.vars) _
+    c.in_ok-all.ensures.value (rw x.ensures.held at c.in_ok-typed.ensures.value) c.stand_of-stand.ensures (rw x.ensures.made at c.type_behind-used.ensures) (ap (map var_declarator_tree) c.as_slice.ensures)
+
+pub returns-clause-length : goal.returns-clause-length
+returns-clause-length c =
+    let same = rw c.in_ok-part.ensures.held at c.in_ok-typed.ensures.vars in
+    rw (same, c.as_slice.ensures) at c.in_ok-all.ensures.length

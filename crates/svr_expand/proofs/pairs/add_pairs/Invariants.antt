@@ -2,7 +2,8 @@ use Rattle.std.proofs.Common.{◌≡◌, ◌++◌, length, drop}
 use Rattle.svr_typed.specs.ExprTerm.{expr_terms}
 use Rattle.svr_eval.specs.Reading.{reading_of}
 use Rattle.svr_frame.specs.Occurrences.{members}
-use Rattle.svr_expand.specs.Expanded.{ExprsAreReady, shape_in}
+use Rattle.svr_mention.specs.Mentioned.{shape_in}
+use Rattle.svr_expand.specs.Expanded.{ExprsAreReady}
 use Rattle.svr_expand.specs.Operands.{operand_exprs, AllReady}
 use Rattle.svr_expand.proofs.pairs.add_pairs.Given as goal
 

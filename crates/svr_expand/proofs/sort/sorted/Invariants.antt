@@ -1,7 +1,7 @@
 use Rattle.std.proofs.Common.{◌≡◌, ◌++◌, List, map, reverse, length}
 use Rattle.std.specs.Prelude.{slice_index}
 use Rattle.svr_typed.specs.ExprTerm.{expr_term}
-use Rattle.svr_expand.specs.declared.mention.Mention.{Mention}
+use Rattle.svr_mention.specs.declared.mention.Mention.{Mention}
 use Rattle.svr_expand.specs.Expanded.{findings, asked_exprs, wished_exprs}
 use Rattle.svr_expand.specs.Targeted.{HoldsTargets}
 use Rattle.svr_expand.proofs.Sorting.{wished_before}

@@ -1,17 +1,10 @@
-use Rattle.std.proofs.Common.{◌++◌, ◌∷◌, [], sym, ◌∙◌, arith}
-use Rattle.std.proofs.lemmas.List.FromFn.{map-range_with_len_more}
+use Rattle.std.proofs.Common.{ap}
 use Rattle.svr_frame.specs.Frame.{frame_term}
-use Rattle.svr_frame.specs.Making.{is_free}
-use Rattle.svr_frame_of.proofs.Chosen.{same_choice}
+use Rattle.svr_frame_of.proofs.Chosen.{with_choice}
 use Rattle.svr_frame_of.proofs.free.with_free_sizes.Goals as goal
 
-pub loop-prop-preserved : goal.loop-prop-preserved
-loop-prop-preserved c =
-    let f = frame_term c.loop-prop.frame in
-    let g = frame_term c.args.frame in
-    let p = c.loop-prop.prop in
-    let before = c.loop-prop.invariant in
-    record {
-      same = c.in_ok-is_free.ensures.same ∙ before.same;
-      told = c.in_ok-push.ensures.ok ∙ (λ i. before.told i ++ (c.in_ok-is_free.ensures.free ∙ same_choice f g p before.same) i ∷ []) ∙ sym (map-range_with_len_more (is_free g) 0 p p (omega arith));
-    }
+pub returns : goal.returns
+returns c =
+    let x = c.in_ok-whole in
+    with_choice (frame_term c.args.frame) (frame_term c.free_sizes-free.new.frame) (frame_term x.whole) c.len-count.result x.free (ap frame_term x.ensures.held)
+    (rw x.ensures.made at c.free_sizes-free.ensures.same) (rw x.ensures.made at c.free_sizes-free.ensures.free) c.len-count.ensures

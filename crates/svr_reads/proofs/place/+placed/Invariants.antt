@@ -1,19 +1,16 @@
 use Rattle.std.proofs.Common.{◌≡◌, ◌+◌, ◌*◌, ◌++◌, ◌∷◌, [], false, length, drop}
-use Rattle.std.specs.List.{list_any}
 use Rattle.svr_typed.specs.declared.expr.TExpr.{size-TExpr}
 use Rattle.svr_typed.specs.declared.expr.TRange.{size-TRange}
 use Rattle.svr_typed.specs.declared.expr.TBound.{size-TBound}
 use Rattle.svr_typed.specs.ExprTerm.{expr_term, expr_terms, range_terms}
 use Rattle.svr_eval.specs.Reading.{reading_of}
 use Rattle.svr_eval.specs.Typed.{AreTyped, RangesAreTyped, AllCanRead, RangesCanRead}
-use Rattle.svr_frame.specs.Occurrences.{each_below}
-use Rattle.svr_frame.specs.Reads.{reads}
-use Rattle.svr_reads.specs.Placed.{shape, covered, placed_in_exprs, placed_in_ranges}
+use Rattle.svr_reads.specs.Placed.{any_below, placed, placed_in_exprs, placed_in_ranges}
 use Rattle.svr_reads.proofs.place.+placed.Given as goal
 
 abbrev pub invariant-placed_in_turns-loop-turn : goal.invariant-placed_in_turns-loop-turn
 invariant-placed_in_turns-loop-turn l =
-    list_any (covered l.set.props.now (reading_of l.set.state.now) l.set.prop l.set.at) (each_below l.turn (λ k. reads (shape l.set.props.now (reading_of l.set.state.now)) (l.env ++ k ∷ []) (expr_term l.body))) ≡ false
+    any_below l.turn (λ k. placed l.set.props.now (reading_of l.set.state.now) l.set.prop l.set.at (l.env ++ k ∷ []) (expr_term l.body)) ≡ false
 
 abbrev pub invariant-placed_in_exprs-loop-part : goal.invariant-placed_in_exprs-loop-part
 invariant-placed_in_exprs-loop-part l = record {

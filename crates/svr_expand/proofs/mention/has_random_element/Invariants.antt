@@ -1,8 +1,0 @@
-use Rattle.std.proofs.Common.{◌≡◌, drop}
-use Rattle.std.specs.List.{list_any}
-use Rattle.svr_frame.specs.Frame.{frame_term}
-use Rattle.svr_expand.specs.Expanded.{is_random_element}
-use Rattle.svr_expand.proofs.mention.has_random_element.Given as goal
-
-abbrev pub invariant-loop-mention : goal.invariant-loop-mention
-invariant-loop-mention l = list_any (is_random_element (frame_term l.frame)) (drop l.mention-index l.mentions) ≡ list_any (is_random_element (frame_term l.frame)) l.mentions
