@@ -1,6 +1,6 @@
 // Clauses for the items of a phase.
 
-ghost use Rattle.std.specs.Prelude.{◌≡◌, ◌≤◌, ℕ, map, sum, false, IfOk};
+ghost use Rattle.std.specs.Prelude.{◌≡◌, ◌≤◌, ℕ, map, sum, IfOk};
 ghost use Rattle.std.specs.List.{All};
 ghost use Rattle.svr_typed.specs.ExprTerm.{expr_term};
 ghost use Rattle.svr_gate.specs.Circuit.{Extends};
@@ -9,13 +9,14 @@ ghost use Rattle.svr_eval.specs.Reading.{reading_of};
 ghost use Rattle.svr_frame.specs.Frame.{frame_term, state_at};
 ghost use Rattle.svr_frame.specs.Satisfaction.{is_at, is_size_of};
 ghost use Rattle.svr_frame.specs.Phases.{unknowns_of, sought_sizes};
-ghost use Rattle.svr_frame.specs.Sound.{IsSound, SizesFit, ExprIsIn};
+ghost use Rattle.svr_frame.specs.Sound.{IsSound, SizesFit};
 ghost use Rattle.svr_vector.specs.Places.{rows};
 ghost use Rattle.svr_inputs.specs.Inputs.{AreInputs, read_at, number_row, size_row};
 ghost use Rattle.svr_inputs.specs.Served.{IsServed};
 ghost use Rattle.svr_encoded.specs.Fixed.{IsFixed};
 ghost use Rattle.svr_encoded.specs.Slots.{place_where, positive_bits, widths_of, reading_at};
 ghost use Rattle.svr_encoded.specs.Encodes.{AreRising, TellItems, Encodes};
+ghost use Rattle.svr_blast.specs.Standing.{StandsIn};
 
 use std::alloc::Global;
 use svr_chain::Lit;
@@ -74,7 +75,7 @@ fn roots_of(
     requires count { inputs.now.count ≡ sum (widths_of (frame_term frame.now) size_bits slots.now) }
     requires room { inputs.now.count ≤ b.old.vars }
     requires typed { All (λ e. IsTyped (expr_term e)) items.now }
-    requires inside { All (λ e. ExprIsIn (frame_term frame.now) false (expr_term e)) items.now }
+    requires inside { All (λ e. StandsIn (frame_term frame.now) (expr_term e)) items.now }
     requires readable { All (λ e. CanRead (reading_of (frame_term frame.now).state) 0 (expr_term e)) items.now }
     requires fixed { All (λ e. IsFixed (sought_sizes (frame_term frame.now) part) (expr_term e)) items.now }
     ensures extends { Extends b.old b.new }
@@ -84,7 +85,7 @@ fn roots_of(
     encode_all(alloc, b, inputs, items)
 }
 
-/// Clauses over the bits of the unknowns of a phase, which are `slots`, and for each item a literal that is true just where it holds. A size has `size_bits` bits, 1 to 32, and the higher ones of its 32 are 0. The items are closed and meet what is asked of the items of the frame.
+/// Clauses over the bits of the unknowns of a phase, which are `slots`, and for each item a literal that is true just where it holds. A size has `size_bits` bits, 1 to 32, and the higher ones of its 32 are 0. The items are closed and meet what is asked of the items of the frame; a bound of a size may stand beside them.
 pub fn blast(
     alloc: Global,
     items: Vec<TExpr>,
@@ -100,7 +101,7 @@ pub fn blast(
     requires few_bits { size_bits ≤ 32 }
     requires slots { slots.items ≡ unknowns_of (frame_term frame.now) part sizes.now }
     requires typed { All (λ e. IsTyped (expr_term e)) items.items }
-    requires inside { All (λ e. ExprIsIn (frame_term frame.now) false (expr_term e)) items.items }
+    requires inside { All (λ e. StandsIn (frame_term frame.now) (expr_term e)) items.items }
     requires readable { All (λ e. CanRead (reading_of (frame_term frame.now).state) 0 (expr_term e)) items.items }
     requires fixed { All (λ e. IsFixed (sought_sizes (frame_term frame.now) part) (expr_term e)) items.items }
     ensures { IfOk result (λ e. Encodes (frame_term frame.now) part sizes.now size_bits (map expr_term items.items) e) }

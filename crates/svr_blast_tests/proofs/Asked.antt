@@ -1,5 +1,5 @@
 -- Each item that is tried is one of its phase of the call.
-use Rattle.std.proofs.Common.{◌≡◌, ◌<◌, ◌≤◌, ◌^◌, ℕ, zero, suc, Bool, true, false, List, [], ◌∷◌, refl, sym, subst, arith, lit<, lit≤}
+use Rattle.std.proofs.Common.{◌≡◌, ◌<◌, ◌≤◌, ◌^◌, ℕ, zero, suc, Bool, true, false, inl, List, [], ◌∷◌, refl, sym, subst, arith, lit<, lit≤}
 use Rattle.std.specs.List.{All}
 use Rattle.std.proofs.lemmas.List.Elements.{All-nil, All-cons}
 use Rattle.svr_operator.specs.declared.BinOp.{BinOp}
@@ -18,6 +18,7 @@ use Rattle.svr_frame.specs.Frame.{FrameTerm}
 use Rattle.svr_frame.specs.Phases.{unknowns_of, sought_sizes}
 use Rattle.svr_frame.specs.Sound.{ExprIsIn}
 use Rattle.svr_encoded.specs.Fixed.{IsFixed}
+use Rattle.svr_blast.specs.Standing.{StandsIn}
 use Rattle.svr_frame.specs.declared.part.Part.{Part}
 use Rattle.svr_frame.specs.declared.part.Part.TheVariants as part
 use Rattle.svr_blast_tests.specs.declared.form.Form.{Form}
@@ -287,10 +288,10 @@ module _ (f : Form) (e : TExpr) (es : List TExpr) (is : es ≡ e ∷ []) (term :
   pub one_typed : All (λ x. IsTyped (expr_term x)) es
   one_typed = one_of (λ x. IsTyped (expr_term x)) e es is (subst IsTyped (sym term) (item_asked f).typed)
 
-  pub one_inside : (frame : FrameTerm) → frame ≡ sample_frame → All (λ x. ExprIsIn frame false (expr_term x)) es
+  pub one_inside : (frame : FrameTerm) → frame ≡ sample_frame → All (λ x. StandsIn frame (expr_term x)) es
   one_inside frame same =
-      subst (λ (g : FrameTerm). All (λ x. ExprIsIn g false (expr_term x)) es) (sym same)
-      (one_of (λ x. ExprIsIn sample_frame false (expr_term x)) e es is (subst (ExprIsIn sample_frame false) (sym term) (item_asked f).inside))
+      subst (λ (g : FrameTerm). All (λ x. StandsIn g (expr_term x)) es) (sym same)
+      (one_of (λ x. StandsIn sample_frame (expr_term x)) e es is (inl (subst (ExprIsIn sample_frame false) (sym term) (item_asked f).inside)))
 
   pub one_readable : (frame : FrameTerm) → frame ≡ sample_frame → All (λ x. CanRead (reading_of frame.state) 0 (expr_term x)) es
   one_readable frame same =

@@ -1,9 +1,9 @@
 -- Lists of the numbers that bits spell, read place by place.
-use Rattle.std.proofs.Common.{◌≡◌, ◌<◌, ◌≤◌, ℕ, Bool, refl, sym, ap, ◌∙◌, List, [], length, arith, ⊎_elim, None}
+use Rattle.std.proofs.Common.{◌≡◌, ◌≤◌, ℕ, Bool, refl, sym, ap, ◌∙◌, List, [], length, arith, ⊎_elim, None}
 use Rattle.std.specs.Prelude.{if◌then◌else◌, slice_index, slice_index_or}
 use Rattle.std.proofs.lemmas.Bool.{cases_lt, le-ltb}
 use Rattle.svr_eval.specs.declared.assign.Assign.{Assign}
-use Rattle.svr_eval.specs.Reading.{Reading, reading_of}
+use Rattle.svr_eval.specs.Reading.{reading_of}
 use Rattle.svr_inputs.specs.declared.inputs.Inputs.{Inputs}
 use Rattle.svr_inputs.specs.Inputs.{state_of, read_at, read_or, number_bits, size_bits}
 use Rattle.svr_draw.proofs.Built.{past_end, built_long, built_at, built_past}

@@ -1,14 +1,15 @@
--- Inputs with the bits of the unknowns of the last phase, and what values of a question say of its hard items.
-use Rattle.std.proofs.Common.{◌≡◌, ◌<◌, ◌≤◌, ◌^◌, ℕ, zero, suc, Bool, true, false, not, ◌&&◌, List, [], ◌∷◌, ◌++◌, length, map, refl, sym, ap, ◌∙◌, arith, subst, Some, None}
+-- Inputs with the bits of the unknowns of the last phase, and what values say of chosen values and of items.
+use Rattle.std.proofs.Common.{◌≡◌, ◌<◌, ◌≤◌, ℕ, zero, suc, Bool, true, false, not, ◌&&◌, List, [], ◌∷◌, ◌++◌, length, map, refl, sym, ap, ◌∙◌, arith, subst, None}
 use Rattle.std.specs.Prelude.{if◌then◌else◌, nat_lt, slice_index, slice_index_or}
 use Rattle.std.specs.List.{All, list_any, list_all}
 use Rattle.std.proofs.lemmas.Bool.{and_parts}
+use Rattle.std.proofs.lemmas.List.Folds.{list_all-append}
 use Rattle.std.proofs.lemmas.List.{length-map}
 use Rattle.std.proofs.lemmas.List.Elements.{All-head, All-tail}
 use Rattle.svr_limits.specs.declared.limit.TheConstants.{PROPERTY_LIMIT}
 use Rattle.svr_typed.specs.declared.class.Prop.{Prop}
 use Rattle.svr_typed.specs.declared.class.EnumType.{EnumType}
-use Rattle.svr_chain.specs.declared.clause.Lit.{Lit}
+use Rattle.svr_chain.specs.Valuations.{lit_value}
 use Rattle.svr_query.specs.Answer.{IsModel}
 use Rattle.svr_query.specs.Logged.{valuation_of}
 use Rattle.svr_eval.specs.declared.assign.Assign.{Assign}
@@ -18,12 +19,12 @@ use Rattle.svr_frame.specs.declared.slot.Slot.{Slot}
 use Rattle.svr_frame.specs.Frame.{FrameTerm, is_scalar_kind, is_randc, is_scalar, is_random, is_cyclic, state_at}
 use Rattle.svr_frame.specs.Occurrences.{Occurrence, all_true, closed_of}
 use Rattle.svr_frame.specs.Phases.{unknowns_of, hard_of, live_of}
-use Rattle.svr_frame.specs.Satisfaction.{is_at, is_size_of, IsAssignment}
+use Rattle.svr_frame.specs.Satisfaction.{is_at, is_size_of, IsAssignment, kept_of}
 use Rattle.svr_frame.specs.Sound.{IsProp, IsSound, SizesFit}
 use Rattle.svr_frame_laws.proofs.Answers.{scalar_one}
 use Rattle.svr_vector.specs.Places.{rows}
 use Rattle.svr_inputs.specs.declared.inputs.Inputs.{Inputs}
-use Rattle.svr_inputs.specs.Inputs.{read_at, state_of, number_bits, size_bits, number_row, size_row}
+use Rattle.svr_inputs.specs.Inputs.{read_at, number_bits, size_bits, number_row, size_row}
 use Rattle.svr_encoded.specs.declared.encoded.Encoded.{Encoded}
 use Rattle.svr_encoded.specs.Slots.{place_where, positive_bits, widths_of, bits_of_slot, bits_where, reading_at}
 use Rattle.svr_encoded.specs.Encodes.{holds}
@@ -32,9 +33,13 @@ use Rattle.svr_encoded.proofs.EncodedLemmas.{length-positive_bits}
 use Rattle.svr_encoded.proofs.BridgeLemmas.{none_where, read_of_phase, read_is_assignment}
 use Rattle.svr_encoded.proofs.UnknownLemmas.{none_past, none_unsought}
 use Rattle.svr_encoded.proofs.ServedLemmas.{found, at_width}
-use Rattle.svr_phase.specs.Proof.{hard_roots}
-use Rattle.svr_phase.proofs.Refutes.{hard_held, closed_hold}
-use Rattle.svr_question.specs.Ends.{EncodesCall}
+use Rattle.svr_phase.specs.Spent.{closed_at}
+use Rattle.svr_phase.specs.Proof.{fixed_lits, hard_roots, soft_roots, kept_lits}
+use Rattle.svr_phase.specs.Chosen.{AreCyclicValues}
+use Rattle.svr_phase.proofs.Refutes.{hard_held}
+use Rattle.svr_phase.proofs.KeptItems.{both_hold, kept_held}
+use Rattle.svr_question.specs.Ends.{EncodesCall, kept_literals}
+use Rattle.svr_question.proofs.Chosen.{read_with_chosen, all_in_order, all_members}
 use Rattle.svr_found.specs.Listed.{AreShort}
 
 -- ---- properties of a sound frame
@@ -101,11 +106,14 @@ module _ (i : Inputs) (f : FrameTerm) (slots : List Slot) (sound : IsSound f) (f
   pub read_as : (v : ℕ → Bool) → read_at i v ≡ reading_at (state_at f i.sizes.now) slots (rows i.bits.now) v
   read_as v = reads_slots i slots len nums szs v ∙ ap (λ a. reading_at (state_with a) slots (rows i.bits.now) v) state
 
--- ---- values that make the roots of the hard items true
+-- ---- values that make literals of chosen values, and roots, true
 
 module _ (f : FrameTerm) (ns : List ℕ) (sound : IsSound f) (fit : SizesFit f ns) (e : Encoded) (encodes : EncodesCall f ns e) (values : List Bool) where
   abbrev hard : List Occurrence
   hard = hard_of f Whole ns
+
+  abbrev soft : List Occurrence
+  soft = live_of f Whole ns
 
   abbrev v : ℕ → Bool
   v = valuation_of values
@@ -113,11 +121,28 @@ module _ (f : FrameTerm) (ns : List ℕ) (sound : IsSound f) (fit : SizesFit f n
   as_phase : reading_at (state_at f ns) e.slots.items (rows e.bits.items) v ≡ read_of_phase f Whole ns 1 v
   as_phase = λ k. reading_at (state_at f ns) (encodes.slots k) (encodes.bits k) v
 
-  pub is_assignment : (a : Reading) → a ≡ reading_at (state_at f ns) e.slots.items (rows e.bits.items) v → IsAssignment f Whole ns [] a
-  is_assignment a is = subst (IsAssignment f Whole ns []) (sym (is ∙ as_phase)) (read_is_assignment f Whole ns 1 (omega arith) sound fit v)
+  free : IsAssignment f Whole ns [] (read_of_phase f Whole ns 1 v)
+  free = read_is_assignment f Whole ns 1 (omega arith) sound fit v
 
-  pub meets_hard : IsModel e.cnf.clauses.items (hard_roots e hard) values → (a : Reading) → a ≡ reading_at (state_at f ns) e.slots.items (rows e.bits.items) v → all_true a hard ≡ true
-  meets_hard model a is =
-      ap (λ (r : Reading). all_true r hard) (is ∙ as_phase)
-      ∙ sym (closed_hold f Whole ns sound fit [] (read_of_phase f Whole ns 1 v) (read_is_assignment f Whole ns 1 (omega arith) sound fit v))
-      ∙ hard_held f Whole ns 1 hard (live_of f Whole ns) e encodes v model.0 model.1
+  -- the chosen values are fixed where their literals are true
+  pub is_assignment : (a : Reading) → a ≡ reading_at (state_at f ns) e.slots.items (rows e.bits.items) v → (chosen : List (ℕ × ℕ)) → AreCyclicValues f chosen → list_all (lit_value v) (fixed_lits e chosen) ≡ true
+      → IsAssignment f Whole ns chosen a
+  is_assignment a is chosen cyclic spelled =
+      subst (IsAssignment f Whole ns chosen) (sym (is ∙ as_phase))
+      (read_with_chosen f Whole ns 1 (closed_at f ns (hard ++ soft)) e encodes chosen [] (all_in_order f chosen cyclic) (omega arith) sound fit (all_members f chosen cyclic) v spelled)
+
+  -- the hard items and the kept soft ones hold where their roots are true
+  pub meets_kept : (a : Reading) → a ≡ reading_at (state_at f ns) e.slots.items (rows e.bits.items) v → (chosen : List (ℕ × ℕ)) (fates : List Bool) → IsModel e.cnf.clauses.items (kept_literals f ns chosen fates e) values
+      → all_true a (hard_of f Whole ns ++ kept_of (live_of f Whole ns) fates) ≡ true
+  meets_kept a is chosen fates model =
+      let t = lit_value v in
+      let asked = fixed_lits e chosen ++ hard_roots e hard in
+      let kept = kept_lits fates (soft_roots e hard) in
+      let both = and_parts (list_all t asked) (list_all t kept) (sym (list_all-append t asked kept) ∙ model.1) in
+      let first = and_parts (list_all t (fixed_lits e chosen)) (list_all t (hard_roots e hard)) (sym (list_all-append t (fixed_lits e chosen) (hard_roots e hard)) ∙ both.0) in
+      let hard_ones = hard_held f Whole ns 1 hard soft e encodes v model.0 first.1 in
+      let kept_ones = kept_held f Whole ns 1 hard soft e encodes v model.0 fates both.1 in
+      ap (λ (r : Reading). all_true r (hard ++ kept_of soft fates)) (is ∙ as_phase)
+      ∙ sym (both_hold f Whole ns sound fit [] (read_of_phase f Whole ns 1 v) free fates)
+      ∙ list_all-append (λ o. holds (read_of_phase f Whole ns 1 v) (closed_of (state_at f ns) o)) hard (kept_of soft fates)
+      ∙ (λ k. hard_ones k && kept_ones k)

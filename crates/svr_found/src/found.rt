@@ -1,20 +1,23 @@
 // The assignment of the last phase of a call that a search found.
 
-ghost use Rattle.std.specs.Prelude.{◌≡◌, ℕ, true, [], length, slice_index, slice_index_or, IfOk};
+ghost use Rattle.std.specs.Prelude.{◌≡◌, ℕ, Bool, true, List, [], ◌++◌, length, slice_index, slice_index_or, IfOk};
+ghost use Rattle.std.specs.List.{list_all};
+ghost use Rattle.svr_chain.specs.Valuations.{lit_value};
 ghost use Rattle.svr_query.specs.Answer.{IsModel};
 ghost use Rattle.svr_query.specs.Logged.{valuation_of};
 ghost use Rattle.svr_eval.specs.Reading.{reading_of};
 ghost use Rattle.svr_frame.specs.declared.part.Part.TheVariants.{All as Whole};
 ghost use Rattle.svr_frame.specs.Frame.{frame_term, state_at};
 ghost use Rattle.svr_frame.specs.Occurrences.{all_true};
-ghost use Rattle.svr_frame.specs.Phases.{unknowns_of, hard_of};
-ghost use Rattle.svr_frame.specs.Satisfaction.{is_at, is_size_of, IsAssignment};
+ghost use Rattle.svr_frame.specs.Phases.{unknowns_of, hard_of, live_of};
+ghost use Rattle.svr_frame.specs.Satisfaction.{is_at, is_size_of, IsAssignment, kept_of};
 ghost use Rattle.svr_frame.specs.Sound.{IsSound, SizesFit};
 ghost use Rattle.svr_vector.specs.Places.{rows};
 ghost use Rattle.svr_inputs.specs.Inputs.{number_row, size_row};
 ghost use Rattle.svr_encoded.specs.Slots.{place_where, positive_bits, widths_of, reading_at};
-ghost use Rattle.svr_phase.specs.Proof.{hard_roots};
-ghost use Rattle.svr_question.specs.Ends.{EncodesCall};
+ghost use Rattle.svr_phase.specs.Proof.{fixed_lits};
+ghost use Rattle.svr_phase.specs.Chosen.{AreCyclicValues};
+ghost use Rattle.svr_question.specs.Ends.{EncodesCall, kept_literals};
 
 use crate::numbers::reading_found;
 use std::alloc::Global;
@@ -45,7 +48,7 @@ fn slots_found(
     reading_found(alloc, inputs, values)
 }
 
-/// The assignment of the last phase that the values of the variables 1 and on stand for, where they meet the clauses and make the roots of the hard items true: each unknown has the number that its bits spell, all else is as in the state, and the hard items hold. Each property has as many numbers as its size says.
+/// The assignment of the last phase that the values of the variables 1 and on stand for, which may be any: each unknown has the number that its bits spell, and all else is as in the state. Where they make the literals of chosen cyclic values true, it has these; where they meet the clauses and the roots of the hard items and of the kept soft ones, all these items hold. Each property has as many numbers as its size says.
 pub fn assignment_found(
     alloc: Global,
     frame: &Frame,
@@ -56,11 +59,10 @@ pub fn assignment_found(
     requires sound { IsSound (frame_term frame.now) }
     requires fit { SizesFit (frame_term frame.now) sizes.now }
     requires encodes { EncodesCall (frame_term frame.now) sizes.now encoding.now }
-    requires model { IsModel encoding.now.cnf.clauses.items (hard_roots encoding.now (hard_of (frame_term frame.now) Whole sizes.now)) values.now }
     ensures reads { IfOk result (λ a. reading_of a ≡ reading_at (state_at (frame_term frame.now) sizes.now) encoding.now.slots.items (rows encoding.now.bits.items) (valuation_of values.now)) }
     ensures long { IfOk result (λ a. (p : ℕ) → length (slice_index_or a.values p []) ≡ slice_index sizes.now p) }
-    ensures fits { IfOk result (λ a. IsAssignment (frame_term frame.now) Whole sizes.now [] (reading_of a)) }
-    ensures meets { IfOk result (λ a. all_true (reading_of a) (hard_of (frame_term frame.now) Whole sizes.now) ≡ true) }
+    ensures fits { IfOk result (λ a. (chosen : List (ℕ × ℕ)) → AreCyclicValues (frame_term frame.now) chosen → list_all (lit_value (valuation_of values.now)) (fixed_lits encoding.now chosen) ≡ true → IsAssignment (frame_term frame.now) Whole sizes.now chosen (reading_of a)) }
+    ensures meets { IfOk result (λ a. (chosen : List (ℕ × ℕ)) (fates : List Bool) → IsModel encoding.now.cnf.clauses.items (kept_literals (frame_term frame.now) sizes.now chosen fates encoding.now) values.now → all_true (reading_of a) (hard_of (frame_term frame.now) Whole sizes.now ++ kept_of (live_of (frame_term frame.now) Whole sizes.now) fates) ≡ true) }
 {
     let slots = encoding.slots.as_slice();
     let table = table_of(alloc, slots)?;

@@ -118,16 +118,15 @@ module _ (f : FrameTerm) (sound : IsSound f) (a : Reading) where
 -- ---- chosen sizes
 
 module _ (f : FrameTerm) (sound : IsSound f) (q : Asked) (le : q.cap ≤ 2048) where
-  -- an assignment that meets the hard items within the cap
-  solved_fit : (a : Reading) (fixed : List (ℕ × ℕ)) → IsAssignment f Sizes f.state.sizes fixed a → all_true a (within_cap f q) ≡ true → SizesFit f (sizes_read f a)
-  solved_fit a fixed is meets = sizes_fit f sound a (λ p h. is.same_sizes p (none_unsought f f.state.sizes p Sizes h)) (λ p h. few p h)
+  -- an assignment that meets the hard items within the cap has such sizes where the call chooses them
+  pub free_within_cap : (a : Reading) (fixed : List (ℕ × ℕ)) → IsAssignment f Sizes f.state.sizes fixed a → all_true a (within_cap f q) ≡ true → (p : ℕ) → has_free_size f p ≡ true → a.size p ≤ q.cap
+  free_within_cap a fixed is meets p h =
+      cap_met f a p q.cap (short (list_any (is_size_of p) (unknowns_of f Sizes f.state.sizes)) refl) (omega (arith, le))
+      (met_at f a q.cap (has_free_size f) p 0 (length f.class.props) (omega arith) (omega (arith, free_within f sound a p h)) h capped)
     where
-      short : (p : ℕ) → a.size p < 2 ^ 31
-      short p = by_slot (list_any (is_size_of p) (unknowns_of f Sizes f.state.sizes)) refl
-        where
-          by_slot : (b : Bool) → list_any (is_size_of p) (unknowns_of f Sizes f.state.sizes) ≡ b → a.size p < 2 ^ 31
-          by_slot true e = size_fits f sound a p (unknowns_of f Sizes f.state.sizes) is.fits e
-          by_slot false e = omega (arith, is.same_sizes p e, (state_sizes_fit f sound).most p)
+      short : (b : Bool) → list_any (is_size_of p) (unknowns_of f Sizes f.state.sizes) ≡ b → a.size p < 2 ^ 31
+      short true e = size_fits f sound a p (unknowns_of f Sizes f.state.sizes) is.fits e
+      short false e = omega (arith, is.same_sizes p e, (state_sizes_fit f sound).most p)
 
       capped : all_true a (cap_items f q.cap) ≡ true
       capped =
@@ -136,10 +135,9 @@ module _ (f : FrameTerm) (sound : IsSound f) (q : Asked) (le : q.cap ≤ 2048) w
           (and_parts (all_true a (domain_items f Sizes f.state.sizes ++ size_items f Sizes)) (all_true a (cap_items f q.cap))
           (sym (list_all-append (is_true a) (domain_items f Sizes f.state.sizes ++ size_items f Sizes) (cap_items f q.cap)) ∙ front.0)).1
 
-      few : (p : ℕ) → has_free_size f p ≡ true → a.size p ≤ ELEMENT_LIMIT
-      few p h =
-          let item = met_at f a q.cap (has_free_size f) p 0 (length f.class.props) (omega arith) (omega (arith, free_within f sound a p h)) h capped in
-          omega (arith, le, cap_met f a p q.cap (short p) (omega (arith, le)) item)
+  solved_fit : (a : Reading) (fixed : List (ℕ × ℕ)) → IsAssignment f Sizes f.state.sizes fixed a → all_true a (within_cap f q) ≡ true → SizesFit f (sizes_read f a)
+  solved_fit a fixed is meets =
+      sizes_fit f sound a (λ p h. is.same_sizes p (none_unsought f f.state.sizes p Sizes h)) (λ p h. let few = free_within_cap a fixed is meets p h in omega (arith, le, few))
 
   -- a preferred size is at most the cap
   preferred_few : (words : ℕ → ℕ) (p other : ℕ) → other ≤ ELEMENT_LIMIT → (n : ℕ) (ss : List Slot)

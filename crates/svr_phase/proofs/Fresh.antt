@@ -6,10 +6,10 @@ use Rattle.svr_frame.specs.Frame.{FrameTerm, domain_of}
 use Rattle.svr_phase.specs.declared.choice.Choice.{Choice}
 use Rattle.svr_phase.specs.Cyclic.{Cycles, is_among, unused, turned, tried, tried_for, IsFresh, IsFirst, Fits, AreChosen}
 
-all_turned : (P : ℕ → Type 0) (word : ℕ) (vs : List ℕ) → All P vs → All P (turned word vs)
+pub all_turned : (P : ℕ → Type 0) (word : ℕ) (vs : List ℕ) → All P vs → All P (turned word vs)
 all_turned P word vs h = All-append P (drop (word % length vs) vs) (take (word % length vs) vs) (All-drop P (word % length vs) vs h) (All-take P (word % length vs) vs h)
 
-all_of_split : {A : Type 0} (P : A → Type 0) (xs : List A) (y : A) (ys : List A) → All P (xs ++ y ∷ ys) → P y
+pub all_of_split : {A : Type 0} (P : A → Type 0) (xs : List A) (y : A) (ys : List A) → All P (xs ++ y ∷ ys) → P y
 all_of_split P [] y ys h = All-head P y ys h
 all_of_split P (x ∷ xs) y ys h = all_of_split P xs y ys (All-tail P x (xs ++ y ∷ ys) h)
 
@@ -47,7 +47,7 @@ tried_own prop word used domain =
     (All-map (λ (x : Choice). x.prop ≡ prop) (λ v. record { prop = prop; value = v; cycle = false }) _ (all_true_of (λ v. prop ≡ prop) (turned word (unused used domain)) (λ v. refl)))
     (All-map (λ (x : Choice). x.prop ≡ prop) (λ v. record { prop = prop; value = v; cycle = true }) _ (all_true_of (λ v. prop ≡ prop) (turned word domain) (λ v. refl)))
 
-chosen_own : (f : FrameTerm) (c : Cycles) (before : List Choice) (p : ℕ) (x : Choice) → IsFirst (Fits f before) (tried_for f c (length before) p) x → x.prop ≡ p
+pub chosen_own : (f : FrameTerm) (c : Cycles) (before : List Choice) (p : ℕ) (x : Choice) → IsFirst (Fits f before) (tried_for f c (length before) p) x → x.prop ≡ p
 chosen_own f c before p x is =
     all_of_split (λ (y : Choice). y.prop ≡ p) is.refused x is.later
     (subst (λ (ts : List Choice). All (λ (y : Choice). y.prop ≡ p) ts) is.split (tried_own p (c.words (length before)) (slice_index_or c.used p []) (domain_of f p)))

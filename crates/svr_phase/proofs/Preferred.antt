@@ -55,7 +55,7 @@ abbrev pub slots_with : List (ℕ × ℕ) → List (Slot × ℕ)
 slots_with fixed = map (λ c. (Scalar c.0, c.1)) fixed
 
 module _ (f : FrameTerm) where
-  abbrev AllBelow : List (ℕ × ℕ) → Type 0
+  abbrev pub AllBelow : List (ℕ × ℕ) → Type 0
   AllBelow [] = ⊤
   AllBelow (x ∷ xs) = (x.1 < 2 ^ width_of f x.0) × AllBelow xs
 
@@ -71,7 +71,7 @@ pub same_sizes_in : (fixed : List (ℕ × ℕ)) (p other : ℕ) → size_in (slo
 same_sizes_in [] p other = refl
 same_sizes_in (x ∷ xs) p other = same_sizes_in xs p other
 
-same_number_in : (fixed : List (ℕ × ℕ)) (p i other : ℕ) → list_any (is_at p i) (map Scalar (map (λ x. x.0) fixed)) ≡ false → number_in (slots_with fixed) p i other ≡ other
+pub same_number_in : (fixed : List (ℕ × ℕ)) (p i other : ℕ) → list_any (is_at p i) (map Scalar (map (λ x. x.0) fixed)) ≡ false → number_in (slots_with fixed) p i other ≡ other
 same_number_in [] p i other h = refl
 same_number_in (x ∷ xs) p i other h =
     let two = none_of (is_at p i (Scalar x.0)) (list_any (is_at p i) (map Scalar (map (λ y. y.0) xs))) h in
@@ -128,26 +128,17 @@ chosen_below f k sound before (p ∷ ps) (x ∷ xs) h =
       chosen_below f k sound (before ++ x ∷ []) ps xs h.1,
     )
 
-fixed_props : (xs : List Choice) → map (λ (x : ℕ × ℕ). x.0) (fixed_of xs) ≡ map (λ (x : Choice). x.prop) xs
+pub fixed_props : (xs : List Choice) → map (λ (x : ℕ × ℕ). x.0) (fixed_of xs) ≡ map (λ (x : Choice). x.prop) xs
 fixed_props [] = refl
 fixed_props (x ∷ xs) = ap (λ ps. x.prop ∷ ps) (fixed_props xs)
 
-module _ (f : FrameTerm) (ns : List ℕ) (sound : IsSound f) (fit : SizesFit f ns) (cap : ℕ) (le : cap ≤ 2048) (words : ℕ → ℕ) (k : Cycles) (choices : List Choice) (chosen : AreChosen f k [] (cyclic_props f) choices) where
-  abbrev fixed : List (ℕ × ℕ)
-  fixed = fixed_of choices
-
+-- numbers that fit for all cyclic properties, in their order
+module _ (f : FrameTerm) (ns : List ℕ) (sound : IsSound f) (fit : SizesFit f ns) (cap : ℕ) (le : cap ≤ 2048) (words : ℕ → ℕ) (fixed : List (ℕ × ℕ)) (props : map (λ (x : ℕ × ℕ). x.0) fixed ≡ cyclic_props f) (below : AllBelow f fixed) where
   abbrev base : Reading
   base = preferred_of f All ns cap (words_after (length fixed) words)
 
   base_is : IsAssignment f All ns [] base
   base_is = preferred_is f ns sound fit cap le (words_after (length fixed) words) All
-
-  -- one for each cyclic property
-  props_are : map (λ (x : ℕ × ℕ). x.0) fixed ≡ cyclic_props f
-  props_are = fixed_props choices ∙ chosen_props f k [] (cyclic_props f) choices chosen
-
-  below : AllBelow f fixed
-  below = chosen_below f k sound [] (cyclic_props f) choices chosen
 
   number_below : (p i : ℕ) → base.element p i < 2 ^ width_of f p
   number_below p i = number_fits f base ns sound fit All [] base_is p i
@@ -160,16 +151,22 @@ module _ (f : FrameTerm) (ns : List ℕ) (sound : IsSound f) (fit : SizesFit f n
 
   not_cyclic : (p i : ℕ) → list_any (is_at p i) (unknowns_of f All ns) ≡ false → list_any (is_at p i) (map Scalar (map (λ (x : ℕ × ℕ). x.0) fixed)) ≡ false
   not_cyclic p i h =
-      ap (λ (ps : List ℕ). list_any (is_at p i) (map Scalar ps)) props_are
+      ap (λ (ps : List ℕ). list_any (is_at p i) (map Scalar ps)) props
       ∙ (none_of (list_any (is_at p i) (cyclic_slots f)) (list_any (is_at p i) (scalar_slots f))
       (sym (list_any-append (is_at p i) (cyclic_slots f) (scalar_slots f))
       ∙ (none_of (list_any (is_at p i) (cyclic_slots f ++ scalar_slots f)) (list_any (is_at p i) (element_slots f ns)) (sym (list_any-append (is_at p i) (cyclic_slots f ++ scalar_slots f) (element_slots f ns)) ∙ h)).0)).0
 
-  pub preferred_with_is : IsAssignment f All ns fixed (preferred_with f All ns cap words fixed)
-  preferred_with_is = record {
+  pub with_values_is : IsAssignment f All ns fixed (preferred_with f All ns cap words fixed)
+  with_values_is = record {
     fits = all_fit (unknowns_of f All ns) base_is.fits;
     same_numbers = λ p i h. same_number_in fixed p i (base.element p i) (not_cyclic p i h) ∙ base_is.same_numbers p i h;
     same_sizes = λ p h. same_sizes_in fixed p (base.size p) ∙ base_is.same_sizes p h;
     same_script = base_is.same_script;
-    chosen = all_fixed f base fixed (subst AreOnce (sym props_are) (once_in_range (is_cyclic f) 0 (length f.class.props)));
+    chosen = all_fixed f base fixed (subst AreOnce (sym props) (once_in_range (is_cyclic f) 0 (length f.class.props)));
   }
+
+-- those that the phase of cyclic values chose
+pub preferred_with_is : (f : FrameTerm) (ns : List ℕ) → IsSound f → SizesFit f ns → (cap : ℕ) → cap ≤ 2048 → (words : ℕ → ℕ) (k : Cycles) (choices : List Choice) → AreChosen f k [] (cyclic_props f) choices
+    → IsAssignment f All ns (fixed_of choices) (preferred_with f All ns cap words (fixed_of choices))
+preferred_with_is f ns sound fit cap le words k choices chosen =
+    with_values_is f ns sound fit cap le words (fixed_of choices) (fixed_props choices ∙ chosen_props f k [] (cyclic_props f) choices chosen) (chosen_below f k sound [] (cyclic_props f) choices chosen)

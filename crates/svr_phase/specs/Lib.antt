@@ -3,4 +3,5 @@ pub mod Sizes
 pub mod Spent
 pub mod Proof
 pub mod Ends
+pub mod Chosen
 pub mod Examples

@@ -10,8 +10,9 @@ ghost use Rattle.svr_frame.specs.Sound.{IsSound, SizesFit};
 ghost use Rattle.svr_encoded.specs.declared.encoded.Encoded.{Encoded};
 ghost use Rattle.svr_phase.specs.declared.choice.Choice.{Choice};
 ghost use Rattle.svr_phase.specs.declared.proof.Proof.{Proof};
-ghost use Rattle.svr_phase.specs.Cyclic.{Cycles, tried_for, IsFirst, Fits, AreChosen, IsFresh};
-ghost use Rattle.svr_phase.specs.Ends.{Call, HasSizes};
+ghost use Rattle.svr_phase.specs.Chosen.{AreCyclicValues};
+ghost use Rattle.svr_phase.specs.Cyclic.{Cycles, fixed_of, tried_for, IsFirst, Fits, AreChosen, IsFresh};
+ghost use Rattle.svr_phase.specs.Ends.{Call, PassesCyclic, HasSizes};
 ghost use Rattle.svr_phase.specs.Examples as example;
 ghost use Rattle.svr_phase.specs.Proof.{no_lits, SizesAreWhole, Stands};
 
@@ -28,6 +29,11 @@ pub fn a_proof_refutes_all_assignments(frame: &Frame, part: Part, sizes: &[u32])
 pub fn chosen_values_are_not_used(frame: &Frame)
     ensures fresh { (c : Cycles) (before : List Choice) (p : ℕ) (x : Choice) → IsFirst (Fits (frame_term frame.now) before) (tried_for (frame_term frame.now) c (length before) p) x → IsFresh (slice_index_or c.used p []) x }
     ensures props { (c : Cycles) (before : List Choice) (ps : List ℕ) (xs : List Choice) → AreChosen (frame_term frame.now) c before ps xs → map (λ (x : Choice). x.prop) xs ≡ ps }
+{}
+
+/// The values that a call chose for its cyclic properties are one for each, in flat order, and of its domain.
+pub fn chosen_values_are_of_their_domains()
+    ensures { (c : Call) (choices : List Choice) → PassesCyclic c choices → AreCyclicValues c.frame (fixed_of choices) }
 {}
 
 /// The sizes at which a call looks for values fit its frame: one for each property, none above the limit, and those that the call does not choose as they were.

@@ -1,6 +1,11 @@
 pub mod Roots
+pub mod Chosen
 pub mod Rooted
 pub mod Kept
+pub mod Spellings
+pub mod Ranks
+pub mod Bridge
+pub mod Fated
 pub mod Ended
 pub mod Backwards
 pub mod InRow

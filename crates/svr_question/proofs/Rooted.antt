@@ -1,19 +1,24 @@
--- What the search asks of the bits and the roots of an encoding.
-use Rattle.std.proofs.Common.{◌≡◌, ◌≤◌, ◌+◌, ℕ, zero, Bool, false, List, length, take, sum, sym, ap, ◌∙◌, subst, arith}
+-- What the search asks of the bits of an encoding, of its roots, and of the literals of chosen values.
+use Rattle.std.proofs.Common.{◌≡◌, ◌≤◌, ℕ, false, List, [], ◌++◌, length, take, drop, sym, ap, ◌∙◌, subst, arith, append_assoc}
 use Rattle.std.specs.List.{flat_map}
+use Rattle.std.proofs.lemmas.List.{take-append-drop}
 use Rattle.svr_chain.specs.declared.clause.Lit.{Lit}
 use Rattle.svr_chain.specs.Clauses.{AreWithin, is_tautology}
 use Rattle.svr_chain.specs.Settled.{AreSettled}
 use Rattle.svr_query.specs.Bits.{AreFirst}
 use Rattle.svr_frame.specs.declared.part.Part.TheVariants.{All as Whole}
 use Rattle.svr_frame.specs.Frame.{FrameTerm}
-use Rattle.svr_frame.specs.Phases.{unknowns_of}
+use Rattle.svr_frame.specs.Phases.{hard_of, live_of, unknowns_of}
 use Rattle.svr_vector.specs.Places.{rows}
 use Rattle.svr_encoded.specs.declared.encoded.Encoded.{Encoded}
 use Rattle.svr_encoded.specs.Slots.{positives, widths_of}
-use Rattle.svr_phase.specs.Spent.{bit_count}
+use Rattle.svr_encoded.specs.Encodes.{AreRising}
+use Rattle.svr_phase.specs.Chosen.{AreCyclicValues}
+use Rattle.svr_phase.specs.Proof.{fixed_lits}
+use Rattle.svr_phase.specs.Spent.{bit_count, closed_at}
 use Rattle.svr_question.specs.Ends.{EncodesCall}
-use Rattle.svr_question.proofs.Roots.{bits_joined, positives_long, bits_first, bits_within, rising_below, rising_front, rising_within, rising_apart}
+use Rattle.svr_question.proofs.Chosen.{rising_join, chosen_rising, all_in_order}
+use Rattle.svr_question.proofs.Roots.{bits_joined, positives_long, bits_first, bits_within, rising_below, rising_within, rising_apart}
 
 module _ (f : FrameTerm) (sizes : List ℕ) (e : Encoded) (encodes : EncodesCall f sizes e) where
   abbrev count : ℕ
@@ -40,15 +45,23 @@ module _ (f : FrameTerm) (sizes : List ℕ) (e : Encoded) (encodes : EncodesCall
   pub row_settled : AreSettled (length row) e.cnf.vars e.cnf.clauses.items
   row_settled = subst (λ (n : ℕ). AreSettled n e.cnf.vars e.cnf.clauses.items) (sym row_long) encodes.settled
 
-  pub roots_within : (n : ℕ) → AreWithin e.cnf.vars (take n e.roots.items)
-  roots_within n = rising_within count (take n e.roots.items) e.cnf.vars (rising_front count e.roots.items e.cnf.vars n encodes.apart)
+  -- the literals of the chosen values and all roots behind them are of rising variables
+  all_rising : (chosen : List (ℕ × ℕ)) → AreCyclicValues f chosen → AreRising 0 (fixed_lits e chosen ++ e.roots.items) e.cnf.vars
+  all_rising chosen cyclic =
+      rising_join 0 (fixed_lits e chosen) count e.roots.items e.cnf.vars
+      (chosen_rising f Whole sizes 1 (closed_at f sizes (hard_of f Whole sizes ++ live_of f Whole sizes)) e encodes chosen [] (all_in_order f chosen cyclic)) encodes.apart
 
-  pub roots_apart : (n : ℕ) → is_tautology (take n e.roots.items) ≡ false
-  roots_apart n = rising_apart count (take n e.roots.items) e.cnf.vars (rising_front count e.roots.items e.cnf.vars n encodes.apart)
-
-  -- what the search asks of a list that is the row, and of one that is the first roots
+  -- what the search asks of a list that is the row
   pub row_asked : (ls : List Lit) → ls ≡ row → AreWithin e.cnf.vars ls × AreFirst ls × AreSettled (length ls) e.cnf.vars e.cnf.clauses.items
   row_asked ls is = subst (λ (xs : List Lit). AreWithin e.cnf.vars xs × AreFirst xs × AreSettled (length xs) e.cnf.vars e.cnf.clauses.items) (sym is) (row_within, row_first, row_settled)
 
-  pub roots_asked : (n : ℕ) (ls : List Lit) → ls ≡ take n e.roots.items → AreWithin e.cnf.vars ls × (is_tautology ls ≡ false)
-  roots_asked n ls is = subst (λ (xs : List Lit). AreWithin e.cnf.vars xs × (is_tautology xs ≡ false)) (sym is) (roots_within n, roots_apart n)
+  -- and of the literals of the chosen values and all roots, wherever these are cut
+  pub roots_asked : (chosen : List (ℕ × ℕ)) → AreCyclicValues f chosen → (n : ℕ) (base soft : List Lit) → base ≡ fixed_lits e chosen ++ take n e.roots.items → soft ≡ drop n e.roots.items
+      → AreWithin e.cnf.vars (base ++ soft) × (is_tautology (base ++ soft) ≡ false)
+  roots_asked chosen cyclic n base soft first behind =
+      let same : base ++ soft ≡ fixed_lits e chosen ++ e.roots.items
+      = (λ i. first i ++ behind i)
+      ∙ append_assoc (fixed_lits e chosen) (take n e.roots.items) (drop n e.roots.items)
+      ∙ ap (λ (ls : List Lit). fixed_lits e chosen ++ ls) (take-append-drop n e.roots.items) in
+      subst (λ (xs : List Lit). AreWithin e.cnf.vars xs × (is_tautology xs ≡ false)) (sym same)
+      (rising_within 0 (fixed_lits e chosen ++ e.roots.items) e.cnf.vars (all_rising chosen cyclic), rising_apart 0 (fixed_lits e chosen ++ e.roots.items) e.cnf.vars (all_rising chosen cyclic))

@@ -1,6 +1,6 @@
 -- The bits of an encoding in a row, and the roots that are assumed.
-use Rattle.std.proofs.Common.{◌≡◌, ◌<◌, ◌≤◌, ℕ, zero, suc, ◌+◌, Bool, true, false, not, ◌&&◌, ◌||◌, List, [], ◌∷◌, ◌++◌, length, take, sum, refl, sym, ap, ◌∙◌, subst, arith, nat_eq, slice_index_or}
-use Rattle.std.specs.List.{All, flat_map, list_any}
+use Rattle.std.proofs.Common.{◌≡◌, ◌<◌, ◌≤◌, ℕ, zero, suc, ◌+◌, Bool, true, false, not, ◌&&◌, ◌||◌, List, [], ◌∷◌, ◌++◌, length, sum, refl, sym, ap, ◌∙◌, subst, arith, nat_eq, slice_index_or}
+use Rattle.std.specs.List.{flat_map, list_any}
 use Rattle.std.proofs.lemmas.Bool.{ne_eqb}
 use Rattle.std.proofs.lemmas.List.Elements.{All-nil, All-cons}
 use Rattle.std.proofs.lemmas.List.Concat.{flat_map-cons}
@@ -52,11 +52,6 @@ bits_within n (suc w) top le = All-cons (IsWithin top) (record { var = suc n; ne
 pub rising_below : (n : ℕ) (ls : List Lit) (top : ℕ) → AreRising n ls top → n ≤ top
 rising_below n [] top h = h
 rising_below n (l ∷ ls) top h = let rest = rising_below l.var ls top h.1 in omega (arith, h.0, rest)
-
-pub rising_front : (n : ℕ) (ls : List Lit) (top k : ℕ) → AreRising n ls top → AreRising n (take k ls) top
-rising_front n ls top zero h = rising_below n ls top h
-rising_front n [] top (suc k) h = h
-rising_front n (l ∷ ls) top (suc k) h = (h.0, rising_front l.var ls top k h.1)
 
 pub rising_within : (n : ℕ) (ls : List Lit) (top : ℕ) → AreRising n ls top → AreWithin top ls
 rising_within n [] top h = All-nil (IsWithin top)

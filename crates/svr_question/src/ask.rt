@@ -1,130 +1,231 @@
-// One question to the search.
+// The question for the values of a call.
 
-ghost use Rattle.std.specs.Prelude.{◌≡◌, ◌≤◌, false, [], Some, length, take, IfOk};
+ghost use Rattle.std.specs.Prelude.{◌≡◌, ◌≤◌, ◌++◌, false, [], Some, length, take, drop, IfOk};
 ghost use Rattle.std.specs.List.{All};
 ghost use Rattle.svr_chain.specs.Clauses.{AreWithin, is_tautology};
 ghost use Rattle.svr_chain.specs.Settled.{AreSettled};
 ghost use Rattle.svr_query.specs.Bits.{AreFirst};
-ghost use Rattle.svr_query.specs.Answer.{IsAnswer};
 ghost use Rattle.svr_frame.specs.declared.part.Part.TheVariants.{All as Whole};
 ghost use Rattle.svr_frame.specs.Frame.{frame_term};
 ghost use Rattle.svr_frame.specs.Phases.{hard_of};
 ghost use Rattle.svr_frame.specs.Sound.{IsSound, SizesFit};
-ghost use Rattle.svr_question.specs.Ends.{EncodesCall, Ends, end_of};
+ghost use Rattle.svr_phase.specs.Chosen.{AreCyclicValues};
+ghost use Rattle.svr_phase.specs.Proof.{fixed_lits};
+ghost use Rattle.svr_soft.specs.Kept.{AreRanks};
+ghost use Rattle.svr_soft.specs.End.{IsPassEnd};
+ghost use Rattle.svr_question.specs.Ends.{EncodesCall, Ends};
+ghost use Rattle.svr_question.specs.Passed.{IsMetBy, RanksFit, Becomes};
 
+use crate::fates::{dropped_all, fates_of};
+use crate::fixed::fixed_literals;
 use crate::literals::joined;
 use crate::memory::NoMemory;
 use crate::prefer::preferences;
 use sqlite_items::Items;
 use std::alloc::Global;
+use svr_call::Dropped;
 use svr_chain::{Cnf, Lit, Refutation};
 use svr_encoded::Encoded;
 use svr_eval::Assign;
 use svr_frame::Frame;
 use svr_phase::{Proof, ProofReason};
-use svr_query::{Answer, Solver};
+use svr_query::Solver;
+use svr_soft::{PassEnd, pass};
 
-/// How the question for values that meet the hard items ended. The proof names the one encoding of the answer.
+/// What a call asks for: how many of the first roots are those of the hard items, the values of the cyclic properties, the place that the encoding will have in the list of the answer, the values that are tried first, and the budget in steps.
+#[derive(Clone, Copy)]
+pub struct Question<'a> {
+    pub hard: usize,
+    pub chosen: &'a [(u32, u64)],
+    pub place: u32,
+    pub wanted: &'a Assign,
+    pub budget: u64,
+}
+
+/// Values that were found. The soft items stand in the order of their ranks, the highest priority first.
 #[derive(Drop)]
-pub enum HardEnd {
+pub struct Met {
+    /// True for each soft item that is kept.
+    pub fates: Vec<bool>,
+    /// The ranks of those.
+    pub kept: Items<u32>,
+    /// The other ones, each with the proof that it cannot be met together with those kept above it.
+    pub dropped: Items<Dropped>,
     /// The values of the variables from 1 on.
-    Met(Vec<bool>),
+    pub values: Vec<bool>,
+}
+
+/// How the question for the values of a call ended. Each proof names the encoding by its place.
+#[derive(Drop)]
+pub enum ValuesEnd {
+    /// Values, and the fates of the soft items.
+    Met(Met),
     /// No assignment meets the hard items.
     Refuted(Proof),
-    /// The budget is spent; the steps from place `first` on were made for this question.
-    Spent { log: Refutation, first: u64 },
+    /// The budget is spent, at the soft item of that rank, or at the hard ones alone; the steps from place `first` on were made for this question.
+    Spent {
+        rank: Option<u32>,
+        log: Refutation,
+        first: u64,
+    },
 }
 
 /// The encoding, given back, and how the question over it ended.
 #[derive(Drop)]
 pub struct Asked {
     pub encoding: Encoded,
-    pub end: HardEnd,
+    pub end: ValuesEnd,
 }
 
-/// What an answer of the search says, where these roots were assumed.
-fn conclude(answer: Answer, assume: Vec<Lit>) -> HardEnd
-    ensures { result ≡ end_of answer assume.items }
+/// The first literals, as far as there are so many.
+fn front(lits: &[Lit], count: usize) -> &[Lit]
+    ensures { result.now ≡ take count lits.now }
 {
-    match answer {
-        Answer::Satisfied(values) => HardEnd::Met(values),
-        Answer::Refuted(refutation) => HardEnd::Refuted(Proof {
-            encoding: 0,
-            assume: Items::from_vec(assume),
-            refutation,
-            reason: ProofReason::Hard,
-        }),
-        Answer::Spent { log, first } => HardEnd::Spent { log, first },
+    if count < lits.len() {
+        return &lits[..count];
     }
+    lits
 }
 
-/// The clauses, given back, and what the search answered.
+/// The literals behind the first ones, as far as there are any.
+pub fn behind(lits: &[Lit], count: usize) -> &[Lit]
+    ensures { result.now ≡ drop count lits.now }
+{
+    if count < lits.len() {
+        return &lits[count..];
+    }
+    &lits[lits.len()..]
+}
+
+/// The literals that each question of a phase assumes: those of the chosen values, and the roots of the hard items, which are the first ones.
+pub fn base_of(
+    alloc: Global,
+    encoding: &Encoded,
+    chosen: &[(u32, u64)],
+    hard: usize,
+) -> Result<Vec<Lit>, NoMemory>
+    ensures { IfOk result (λ ls. ls.items ≡ fixed_lits encoding.now chosen.now ++ take hard encoding.now.roots.items) }
+{
+    let mut base = fixed_literals(alloc, encoding, chosen)?;
+    let roots = encoding.roots.as_slice();
+    let hard_roots = front(roots, hard);
+    base.extend_from_slice(hard_roots)?;
+    Ok(base)
+}
+
+/// The clauses, given back, and how the pass over the soft roots ended.
 #[derive(Drop)]
-struct Searched {
-    cnf: Cnf,
-    answer: Answer,
+pub struct Passed {
+    pub cnf: Cnf,
+    pub end: PassEnd,
 }
 
-/// One question to a new solver over the clauses.
-fn search(
+/// One pass over the soft roots, from the highest priority down, with a new solver over the clauses, whose first variables are the bits. Ranks are numbers of 32 bits.
+pub fn pass_over(
     alloc: Global,
     cnf: Cnf,
     bits: Vec<Lit>,
-    assume: &[Lit],
+    base: &[Lit],
+    soft: &[Lit],
     prefer: &[bool],
     budget: u64,
-) -> Result<Searched, NoMemory>
+) -> Result<Passed, NoMemory>
     requires clauses { All (AreWithin cnf.vars) cnf.clauses.items }
     requires bits { AreWithin cnf.vars bits.items }
     requires first { AreFirst bits.items }
     requires settled { AreSettled (length bits.items) cnf.vars cnf.clauses.items }
-    requires within { AreWithin cnf.vars assume.now }
-    requires apart { is_tautology assume.now ≡ false }
+    requires within { AreWithin cnf.vars (base.now ++ soft.now) }
+    requires apart { is_tautology (base.now ++ soft.now) ≡ false }
     requires prefer { length prefer.now ≡ cnf.vars }
     requires budget { 1 ≤ budget }
     ensures vars { IfOk result (λ r. r.cnf.vars ≡ cnf.vars) }
     ensures clauses { IfOk result (λ r. r.cnf.clauses.items ≡ cnf.clauses.items) }
-    ensures answer { IfOk result (λ r. IsAnswer (record { vars = cnf.vars; clauses = cnf.clauses.items; steps = []; bits = Some (length bits.items) }) assume.now budget r.answer) }
+    ensures end { IfOk result (λ r. IsPassEnd (record { vars = cnf.vars; clauses = cnf.clauses.items; steps = []; bits = Some (length bits.items) }) base.now soft.now budget r.end) }
 {
-    let mut solver = Solver::with_bits(alloc, cnf, bits)?;
-    let answer = solver.ask(assume, prefer, budget)?;
-    let cnf = solver.into_cnf();
-    Ok(Searched { cnf, answer })
-}
-
-/// The first literals, as far as there are so many.
-fn front(alloc: Global, lits: &[Lit], count: usize) -> Result<Vec<Lit>, NoMemory>
-    ensures { IfOk result (λ ls. ls.items ≡ take count lits.now) }
-{
-    if count < lits.len() {
-        return Ok(Vec::from_slice(alloc, &lits[..count])?);
+    if soft.len() > u32::MAX as usize {
+        return Err(NoMemory);
     }
-    Ok(Vec::from_slice(alloc, lits)?)
+    let mut solver = Solver::with_bits(alloc, cnf, bits)?;
+    let end = pass(alloc, &mut solver, base, soft, prefer, budget)?;
+    let cnf = solver.into_cnf();
+    Ok(Passed { cnf, end })
 }
 
-/// Asks for values that meet the first `hard` roots of the encoding, which are those of the hard items. The search tries the wanted values first, and gives the question up where it took `budget` steps and the bits have that many values.
-pub fn ask_hard(
+/// The values that the pass found, with the fates of the soft items and a proof for each that is dropped.
+fn dealt(
+    alloc: Global,
+    place: u32,
+    base: &[Lit],
+    soft: &[Lit],
+    kept: Vec<u32>,
+    dropped: Vec<(u32, Refutation)>,
+    values: Vec<bool>,
+) -> Result<Met, NoMemory>
+    requires { AreRanks (length soft.now) kept.items }
+    ensures { IfOk result (λ m. IsMetBy place base.now soft.now kept.items dropped.items values.items m) }
+{
+    let ranks = kept.as_slice();
+    let fates = fates_of(alloc, ranks, soft.len())?;
+    let dropped = dropped_all(alloc, place, base, soft, ranks, dropped)?;
+    Ok(Met {
+        fates,
+        kept: Items::from_vec(kept),
+        dropped,
+        values,
+    })
+}
+
+/// What the end of the pass says, where each question assumed the base.
+fn concluded(
+    alloc: Global,
+    place: u32,
+    base: Vec<Lit>,
+    soft: &[Lit],
+    end: PassEnd,
+) -> Result<ValuesEnd, NoMemory>
+    requires { RanksFit (length soft.now) end }
+    ensures { IfOk result (Becomes place base.items soft.now end) }
+{
+    match end {
+        PassEnd::Done {
+            kept,
+            dropped,
+            values,
+        } => {
+            let assumed = base.as_slice();
+            let met = dealt(alloc, place, assumed, soft, kept, dropped, values)?;
+            Ok(ValuesEnd::Met(met))
+        }
+        PassEnd::BaseRefuted(refutation) => Ok(ValuesEnd::Refuted(Proof {
+            encoding: place,
+            assume: Items::from_vec(base),
+            refutation,
+            reason: ProofReason::Hard,
+        })),
+        PassEnd::Spent { rank, log, first } => Ok(ValuesEnd::Spent { rank, log, first }),
+    }
+}
+
+/// Asks for values that meet the hard items, whose roots are the first ones of the encoding, and as many soft ones as can hold, those of higher priority first (IEEE 1800-2017, 18.5.14.1), with the cyclic values that were chosen. The search tries the wanted values first, and gives a question up where it took `budget` steps and the bits have that many values.
+pub fn ask_values(
     alloc: Global,
     frame: &Frame,
     sizes: &[u32],
     encoding: Encoded,
-    hard: usize,
-    wanted: &Assign,
-    budget: u64,
+    question: Question<'_>,
 ) -> Result<Asked, NoMemory>
     requires sound { IsSound (frame_term frame.now) }
     requires fit { SizesFit (frame_term frame.now) sizes.now }
     requires encodes { EncodesCall (frame_term frame.now) sizes.now encoding }
-    requires hard { hard ≡ length (hard_of (frame_term frame.now) Whole sizes.now) }
-    requires budget { 1 ≤ budget }
+    requires hard { question.hard ≡ length (hard_of (frame_term frame.now) Whole sizes.now) }
+    requires chosen { AreCyclicValues (frame_term frame.now) question.chosen.now }
+    requires budget { 1 ≤ question.budget }
     ensures encodes { IfOk result (λ asked. EncodesCall (frame_term frame.now) sizes.now asked.encoding) }
-    ensures end { IfOk result (λ asked. Ends (frame_term frame.now) sizes.now budget asked.encoding asked.end) }
+    ensures end { IfOk result (λ asked. Ends (frame_term frame.now) sizes.now question.entry.chosen.now question.entry.place question.entry.budget asked.encoding asked.end) }
 {
-    let roots_in_row = encoding.roots.as_slice();
-    let assume = front(alloc, roots_in_row, hard)?;
-    let rows = encoding.bits.as_slice();
-    let bits_in_row = joined(alloc, rows)?;
-    let prefer = preferences(alloc, &encoding, wanted)?;
+    let base = base_of(alloc, &encoding, question.chosen, question.hard)?;
+    let row = joined(alloc, encoding.bits.as_slice())?;
+    let prefer = preferences(alloc, &encoding, question.wanted)?;
     let Encoded {
         items,
         slots,
@@ -132,11 +233,10 @@ pub fn ask_hard(
         cnf,
         roots,
     } = encoding;
-    let assumed = assume.as_slice();
-    let preferred = prefer.as_slice();
-    let found = search(alloc, cnf, bits_in_row, assumed, preferred, budget)?;
-    let Searched { cnf, answer } = found;
-    let end = conclude(answer, assume);
+    let soft = behind(roots.as_slice(), question.hard);
+    let passed = pass_over(alloc, cnf, row, &base, soft, &prefer, question.budget)?;
+    let Passed { cnf, end } = passed;
+    let end = concluded(alloc, question.place, base, soft, end)?;
     let encoding = Encoded {
         items,
         slots,

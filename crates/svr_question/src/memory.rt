@@ -2,7 +2,7 @@
 
 use std::alloc::{AllocError, AllocFailed};
 
-/// An allocation was refused.
+/// An allocation was refused, or there are more things than numbers of 32 bits count.
 #[derive(Clone, Copy, Debug, PartialEq, Eq)]
 pub struct NoMemory;
 
@@ -20,6 +20,18 @@ impl<T: Drop> From<AllocFailed<T>> for NoMemory {
 
 impl From<svr_query::NoMemory> for NoMemory {
     fn from(_error: svr_query::NoMemory) -> NoMemory {
+        NoMemory
+    }
+}
+
+impl From<svr_soft::NoMemory> for NoMemory {
+    fn from(_error: svr_soft::NoMemory) -> NoMemory {
+        NoMemory
+    }
+}
+
+impl From<svr_vector::NoMemory> for NoMemory {
+    fn from(_error: svr_vector::NoMemory) -> NoMemory {
         NoMemory
     }
 }

@@ -1,121 +1,246 @@
--- Each answer is the step of its call: where hard items are all that there is.
-use Rattle.std.proofs.Common.{◌≡◌, ◌<◌, ◌≤◌, ℕ, Bool, true, false, refl, sym, ◌∙◌, ap, subst, List, [], ◌∷◌, ◌++◌, map, append-nil, Option, None, Some, arith}
-use Rattle.std.specs.Prelude.{filter}
+-- Each answer is the step of its call.
+use Rattle.std.proofs.Common.{◌≡◌, ◌<◌, ◌≤◌, ◌+◌, ℕ, Bool, true, false, refl, sym, ◌∙◌, ap, subst, List, [], ◌∷◌, ◌++◌, map, length, take, ◌-◌, Option, None, Some, arith}
+use Rattle.std.specs.List.{range_with_len}
 use Rattle.svr_chain.specs.Views.{RefutationView}
 use Rattle.svr_eval.specs.Reading.{Reading}
 use Rattle.svr_world.specs.declared.change.Change.{Change}
 use Rattle.svr_world.specs.declared.change.Replacement.{Replacement}
-use Rattle.svr_frame.specs.declared.part.Part.TheVariants.{Randc, All as Whole}
-use Rattle.svr_frame.specs.Frame.{FrameTerm, props_of, is_cyclic}
+use Rattle.svr_frame.specs.declared.part.Part.TheVariants.{Randc, Sizes, All as Whole}
+use Rattle.svr_frame.specs.Frame.{FrameTerm}
 use Rattle.svr_frame.specs.Occurrences.{Occurrence}
 use Rattle.svr_frame.specs.Phases.{hard_of, live_of}
-use Rattle.svr_frame.specs.Satisfaction.{IsAssignment, Sat}
-use Rattle.svr_frame.specs.Sound.{IsSound, SizesFit}
+use Rattle.svr_frame.specs.Satisfaction.{Keeps}
 use Rattle.svr_frame.specs.Weight.{weight_of}
 use Rattle.svr_encoded.specs.declared.encoded.Encoded.{Encoded}
-use Rattle.svr_phase.specs.declared.choice.Choice.{Choice}
 use Rattle.svr_phase.specs.declared.proof.Proof.{Proof}
 use Rattle.svr_phase.specs.Spent.{IsSpent}
-use Rattle.svr_phase.specs.Proof.{StandsForHard}
-use Rattle.svr_phase.specs.Cyclic.{Cycles, AreChosen}
-use Rattle.svr_phase.specs.Sizes.{meets_all, preferred_with, chooses_sizes}
-use Rattle.svr_phase.specs.Ends.{Call, weight_limit, PassesCyclic, HasSizes, kept_sizes, IsLight}
-use Rattle.svr_phase.proofs.Preferred.{preferred_with_is}
-use Rattle.svr_call.specs.declared.outcome.Query.TheVariants.{Hard}
-use Rattle.svr_call.specs.declared.outcome.Outcome.TheVariants.{One, Zero, GaveUp, TooHeavy}
-use Rattle.svr_call.specs.Call.{ReachesValues, AsksValues, Gives, as_preferred, as_solved, IsSolution, IsTooHeavy, heavy_cyclic, heavy_values, all_kept, fits_preferred_values, numbers_read, random_props, preferred}
-use Rattle.svr_solution.specs.Calls.{call_in, HasNoCyclic}
+use Rattle.svr_phase.specs.Proof.{StandsForHard, StandsForDrop, StandsForNoSizes, StandsForCap}
+use Rattle.svr_phase.specs.Cyclic.{fixed_of}
+use Rattle.svr_phase.specs.Sizes.{Asked, meets_all, chooses_sizes, AreAllowed, HasNoSizes, IsBeyondCap, fits_preferred, cap_bits}
+use Rattle.svr_phase.specs.Ends.{Call, weight_limit, HasSizes, kept_sizes, chosen_sizes, ReachesSizes, IsLight, question_of, IsZeroCyclic, GivesUpCyclic, SizesAreSpent}
+use Rattle.svr_call.specs.declared.outcome.Dropped.{Dropped}
+use Rattle.svr_call.specs.declared.outcome.Query.{Query}
+use Rattle.svr_call.specs.declared.outcome.Query.TheVariants as query
+use Rattle.svr_call.specs.declared.outcome.Outcome.{Outcome}
+use Rattle.svr_call.specs.declared.outcome.Outcome.TheVariants.{One, Zero, GaveUp, TooHeavy, SizeCap}
+use Rattle.svr_call.specs.Call.{ReachesValues, AsksValues, Gives, as_preferred, as_solved, IsSolution, IsTooHeavy, heavy_cyclic, heavy_sizes, heavy_values, all_kept, numbers_read, random_props, preferred, CanBe, DropsAreProved, GivesUp}
+use Rattle.svr_solution.specs.Calls.{call_in}
+use Rattle.svr_question.specs.declared.ask.Met.{Met}
+use Rattle.svr_question.specs.Ends.{IsNamed, AreProved, CanMeet, IsMet, IsAsked, IsAskedFor}
+use Rattle.svr_cyclic.specs.declared.choose.Chosen.{Chosen}
+use Rattle.svr_cyclic.specs.Ends.{IsChosen}
 use Rattle.svr_randomize.specs.declared.answer.Answer.{Answer}
-use Rattle.svr_randomize.specs.Answers.{IsWish, IsAnswer}
+use Rattle.svr_randomize.specs.Answers.{IsAnswer}
+use Rattle.svr_randomize.specs.Asked.{query_of}
+use Rattle.svr_randomize.proofs.Ranks.{all_ranks_from, none_dropped}
+use Rattle.svr_randomize.proofs.Named.{got_last, cycles_longer}
 
--- no cyclic value has to be chosen
-none_chosen : (f : FrameTerm) (k : Cycles) → HasNoCyclic f → AreChosen f k [] (filter (is_cyclic f) (props_of f)) []
-none_chosen f k none = subst (λ (ps : List ℕ). AreChosen f k [] ps []) (sym none) tt
+-- an outcome, with what the object is to have
+abbrev pub given : Outcome → List Replacement → List Replacement → Answer
+given o values used = record { outcome = o; change = Some (record { values = values; used = used }) }
 
--- where no cyclic value is chosen the preferred assignment is one of the last phase
-pub preferred_is : (f : FrameTerm) (ns : List ℕ) → IsSound f → SizesFit f ns → HasNoCyclic f → (cap : ℕ) → cap ≤ 2048 → (words : ℕ → ℕ) → IsAssignment f Whole ns [] (preferred_with f Whole ns cap words [])
-preferred_is f ns sound fit none cap le words =
-    let k : Cycles = record { used = []; words = words } in
-    preferred_with_is f ns sound fit cap le words k [] (none_chosen f k none)
+-- ---- a phase that weighs too much, and answers of the phase of cyclic values
 
-pub wish_is : (f : FrameTerm) (ns : List ℕ) → IsSound f → SizesFit f ns → HasNoCyclic f → (wanted : Reading) → IsWish f ns wanted → IsAssignment f Whole ns [] wanted
-wish_is f ns sound fit none wanted h = subst (IsAssignment f Whole ns []) (sym h.3) (preferred_is f ns sound fit none h.1 h.2 h.0)
-
-module _ (f : FrameTerm) (used : List (List ℕ)) (words : ℕ → ℕ) (budget cap : ℕ) where
-  abbrev c : Call
-  c = call_in f used words budget cap
-
-  -- ---- what is reached
-
-  pub passes : HasNoCyclic f → weight_of f Randc f.state.sizes ≤ weight_limit → PassesCyclic c []
-  passes none le = record { light = le; chosen = none_chosen f (record { used = used; words = words }) none }
-
-  pub has_sizes : HasNoCyclic f → chooses_sizes f ≡ false → weight_of f Randc f.state.sizes ≤ weight_limit → HasSizes c [] f.state.sizes
-  has_sizes none kept le = kept_sizes (passes none le) kept refl
-
-  pub reaches : HasNoCyclic f → chooses_sizes f ≡ false → weight_of f Randc f.state.sizes ≤ weight_limit → weight_of f Whole f.state.sizes ≤ weight_limit → ReachesValues c [] f.state.sizes
-  reaches none kept cyclic whole = record { sized = has_sizes none kept cyclic; light = whole }
-
-  -- ---- a phase that weighs too much
-
-  pub heavy_first : (weight : ℕ) → weight ≡ weight_of f Randc f.state.sizes → weight_limit < weight → (r : Answer) → r ≡ record { outcome = TooHeavy weight; change = None } → IsAnswer c r
+module _ (c : Call) where
+  pub heavy_first : (weight : ℕ) → weight ≡ weight_of c.frame Randc c.frame.state.sizes → weight_limit < weight → (r : Answer) → r ≡ record { outcome = TooHeavy weight; change = None } → IsAnswer c r
   heavy_first weight is more r same = subst (IsAnswer c) (sym same) (λ w o. (heavy_cyclic is more, refl))
 
-  pub heavy_last : (weight : ℕ) → HasNoCyclic f → chooses_sizes f ≡ false → weight_of f Randc f.state.sizes ≤ weight_limit → weight ≡ weight_of f Whole f.state.sizes → weight_limit < weight
+  pub none_cyclic : (chosen : List (ℕ × ℕ)) (proofs : List Proof) (encodings : List Encoded) → IsZeroCyclic c chosen proofs encodings
+      → (r : Answer) → r ≡ record { outcome = Zero Randc chosen [] proofs encodings; change = None } → IsAnswer c r
+  none_cyclic chosen proofs encodings h r same = subst (IsAnswer c) (sym same) (λ w o. ((refl, h), refl))
+
+  pub spent_cyclic : (prop : ℕ) (e : Encoded) (log : RefutationView) (first : ℕ) → GivesUpCyclic c prop e log first
+      → (r : Answer) → r ≡ record { outcome = GaveUp (query.Randc prop) e log first; change = None } → IsAnswer c r
+  spent_cyclic prop e log first h r same = subst (IsAnswer c) (sym same) (λ w o. (h, refl))
+
+-- ---- behind the cyclic values
+
+module _ (c : Call) (chosen : Chosen) (is : IsChosen c chosen) where
+  abbrev f : FrameTerm
+  f = c.frame
+
+  -- what is asked of the phase of sizes
+  abbrev asked : Asked
+  asked = record { cap = c.cap; words = c.words; chosen = chosen.values }
+
+  asked_is : question_of c is.choices ≡ asked
+  asked_is = ap (λ (fixed : List (ℕ × ℕ)). record { cap = c.cap; words = c.words; chosen = fixed }) (sym is.chosen)
+
+  pub has_kept : chooses_sizes c.frame ≡ false → HasSizes c is.choices c.frame.state.sizes
+  has_kept kept = kept_sizes is.passed kept refl
+
+  abbrev reaches : chooses_sizes c.frame ≡ true → IsLight c Sizes c.frame.state.sizes → ReachesSizes c is.choices
+  reaches chooses light = record { passed = is.passed; chooses = chooses; light = light }
+
+  pub has_chosen : chooses_sizes c.frame ≡ true → IsLight c Sizes c.frame.state.sizes → (sizes : List ℕ) → AreAllowed c.frame asked sizes → HasSizes c is.choices sizes
+  has_chosen chooses light sizes allowed = chosen_sizes (reaches chooses light) (subst (λ (q : Asked). AreAllowed c.frame q sizes) (sym asked_is) allowed)
+
+  pub heavy_second : (weight : ℕ) → chooses_sizes c.frame ≡ true → weight ≡ weight_of c.frame Sizes c.frame.state.sizes → weight_limit < weight
       → (r : Answer) → r ≡ record { outcome = TooHeavy weight; change = None } → IsAnswer c r
-  heavy_last weight none kept le is more r same = subst (IsAnswer c) (sym same) (λ w o. (heavy_values [] f.state.sizes (has_sizes none kept le) is more, refl))
+  heavy_second weight chooses same more r e = subst (IsAnswer c) (sym e) (λ w o. (heavy_sizes is.choices is.passed chooses same more, refl))
+
+  pub heavy_last : (weight : ℕ) (sizes : List ℕ) → HasSizes c is.choices sizes → weight ≡ weight_of c.frame Whole sizes → weight_limit < weight
+      → (r : Answer) → r ≡ record { outcome = TooHeavy weight; change = None } → IsAnswer c r
+  heavy_last weight sizes has same more r e = subst (IsAnswer c) (sym e) (λ w o. (heavy_values is.choices sizes has same more, refl))
+
+  -- ---- the phase of sizes
+
+  module _ (chooses : chooses_sizes c.frame ≡ true) (light : IsLight c Sizes c.frame.state.sizes) where
+    pub none_sized : (proof : Proof) (e : Encoded) → HasNoSizes c.frame asked → StandsForNoSizes c.frame chosen.values (e ∷ []) proof
+        → (r : Answer) → r ≡ record { outcome = Zero Sizes chosen.values [] (proof ∷ []) (e ∷ []); change = None } → IsAnswer c r
+    none_sized proof e none stands r same =
+        subst (IsAnswer c) (sym same)
+        (λ w o. (
+          (
+            refl,
+            record {
+              choices = is.choices;
+              reached = reaches chooses light;
+              none = subst (HasNoSizes c.frame) (sym asked_is) none;
+              choice = is.chosen;
+              proof = proof;
+              only = refl;
+              stands = stands;
+            },
+          ),
+          refl,
+        ))
+
+    pub beyond : (sizes : List ℕ) (proof : Proof) (e : Encoded) → IsBeyondCap c.frame asked sizes → StandsForCap c.frame c.cap (cap_bits c.cap) chosen.values (e ∷ []) proof
+        → (r : Answer) → r ≡ record { outcome = SizeCap sizes (proof ∷ []) (e ∷ []); change = None } → IsAnswer c r
+    beyond sizes proof e over stands r same =
+        subst (IsAnswer c) (sym same)
+        (λ w o. (
+          record {
+            choices = is.choices;
+            reached = reaches chooses light;
+            beyond = subst (λ (q : Asked). IsBeyondCap c.frame q sizes) (sym asked_is) over;
+            proof = proof;
+            only = refl;
+            stands = subst (λ (fixed : List (ℕ × ℕ)). StandsForCap c.frame c.cap (cap_bits c.cap) fixed (e ∷ []) proof) is.chosen stands;
+          },
+          refl,
+        ))
+
+    pub spent_sized : (e : Encoded) (log : RefutationView) (first : ℕ) → fits_preferred c.frame asked ≡ false → SizesAreSpent c.frame c.budget asked e log first
+        → (r : Answer) → r ≡ record { outcome = GaveUp query.Size e log first; change = None } → IsAnswer c r
+    spent_sized e log first unfit spent r same =
+        subst (IsAnswer c) (sym same)
+        (λ w o. (
+          record {
+            choices = is.choices;
+            reached = reaches chooses light;
+            not_preferred = ap (fits_preferred c.frame) asked_is ∙ unfit;
+            spent = subst (λ (q : Asked). SizesAreSpent c.frame c.budget q e log first) (sym asked_is) spent;
+          },
+          refl,
+        ))
 
   -- ---- the last phase
 
-  module _ (sizes : List ℕ) (alone : live_of f Whole sizes ≡ []) where
-    abbrev one_with : List Replacement → Answer
-    one_with numbers = record { outcome = One [] [] [] []; change = Some (record { values = numbers; used = [] }) }
+  module _ (sizes : List ℕ) where
+    abbrev hard : List Occurrence
+    hard = hard_of c.frame Whole sizes
 
-    one_given : (numbers : List Replacement) → ReachesValues c [] sizes → Gives c [] sizes [] numbers → IsAnswer c (one_with numbers)
-    one_given numbers reached gives = λ w o. (
-      record { values = numbers; used = [] },
-      record {
-        choices = [];
-        sizes = sizes;
-        reached = reached;
-        fates = [];
-        gives = gives;
-        uses = refl;
-        kept_ranks = refl;
-        dropped_ranks = refl;
-        drops_proved = tt;
-        cycles_proved = tt;
-      },
-      refl,
-    )
+    abbrev soft : List Occurrence
+    soft = live_of c.frame Whole sizes
 
-    -- the hard items are all
-    pub meets_hard : (a : Reading) → meets_all a (hard_of f Whole sizes ++ live_of f Whole sizes) ≡ meets_all a (hard_of f Whole sizes)
-    meets_hard a = ap (λ (os : List Occurrence). meets_all a (hard_of f Whole sizes ++ os)) alone ∙ ap (meets_all a) (append-nil (hard_of f Whole sizes))
-
-    pub one_preferred : ReachesValues c [] sizes → (wanted : Reading) → wanted ≡ preferred c [] sizes → meets_all wanted (hard_of f Whole sizes) ≡ true
-        → (r : Answer) → r ≡ one_with (numbers_read sizes wanted (random_props f)) → IsAnswer c r
-    one_preferred reached wanted wish meets r same =
+    pub one_preferred : ReachesValues c is.choices sizes → (wanted : Reading) → wanted ≡ preferred c is.choices sizes → meets_all wanted (hard_of c.frame Whole sizes ++ live_of c.frame Whole sizes) ≡ true
+        → (count : ℕ) → count ≡ length (live_of c.frame Whole sizes)
+        → (r : Answer) → r ≡ record { outcome = One (map (λ i. i + 1) (range_with_len 0 count)) [] chosen.cycles chosen.encodings; change = Some (record { values = numbers_read sizes wanted (random_props c.frame); used = chosen.used }) } → IsAnswer c r
+    one_preferred reached wanted wish meets count long r same =
         subst (IsAnswer c) (sym same)
-        (one_given (numbers_read sizes wanted (random_props f)) reached
-        (as_preferred (meets_hard (preferred c [] sizes) ∙ ap (λ (a : Reading). meets_all a (hard_of f Whole sizes)) (sym wish) ∙ meets)
-        (ap all_kept (sym alone))
-        (ap (λ (a : Reading). numbers_read sizes a (random_props f)) wish)))
+        (λ w o. (
+          record { values = numbers_read sizes wanted (random_props c.frame); used = chosen.used },
+          record {
+            choices = is.choices;
+            sizes = sizes;
+            reached = reached;
+            fates = all_kept (live_of c.frame Whole sizes);
+            gives =
+                as_preferred (ap (λ (a : Reading). meets_all a (hard_of c.frame Whole sizes ++ live_of c.frame Whole sizes)) (sym wish) ∙ meets) refl
+                (ap (λ (a : Reading). numbers_read sizes a (random_props c.frame)) wish);
+            uses = is.uses;
+            kept_ranks = ap (λ (n : ℕ). map (λ i. i + 1) (range_with_len 0 n)) long ∙ all_ranks_from 0 (live_of c.frame Whole sizes);
+            dropped_ranks = sym (none_dropped 1 (live_of c.frame Whole sizes));
+            drops_proved = tt;
+            cycles_proved = is.proved;
+          },
+          refl,
+        ))
 
-    pub asks : ReachesValues c [] sizes → (wanted : Reading) → wanted ≡ preferred c [] sizes → meets_all wanted (hard_of f Whole sizes) ≡ false → AsksValues c [] sizes
+    pub asks : ReachesValues c is.choices sizes → (wanted : Reading) → wanted ≡ preferred c is.choices sizes → meets_all wanted (hard_of c.frame Whole sizes ++ live_of c.frame Whole sizes) ≡ false → AsksValues c is.choices sizes
     asks reached wanted wish fails = record {
       reached = reached;
-      not_preferred = meets_hard (preferred c [] sizes) ∙ ap (λ (a : Reading). meets_all a (hard_of f Whole sizes)) (sym wish) ∙ fails;
+      not_preferred = ap (λ (a : Reading). meets_all a (hard_of c.frame Whole sizes ++ live_of c.frame Whole sizes)) (sym wish) ∙ fails;
     }
 
-    pub one_solved : AsksValues c [] sizes → (a : Reading) → IsSolution c [] sizes [] a → (r : Answer) → r ≡ one_with (numbers_read sizes a (random_props f)) → IsAnswer c r
-    one_solved asked a solves r same = subst (IsAnswer c) (sym same) (one_given (numbers_read sizes a (random_props f)) asked.reached (as_solved asked.not_preferred a solves refl))
+    module _ (asking : AsksValues c is.choices sizes) (e : Encoded) where
+      -- the encoding stands behind those of the cyclic values
+      abbrev encodings : List Encoded
+      encodings = chosen.encodings ++ e ∷ []
 
-    pub zero_proved : AsksValues c [] sizes → (proof : Proof) (e : Encoded) → (Sat f Whole sizes [] (hard_of f Whole sizes) → ⊥) → StandsForHard f sizes [] (e ∷ []) proof
-        → (r : Answer) → r ≡ record { outcome = Zero Whole [] sizes (proof ∷ []) (e ∷ []); change = None } → IsAnswer c r
-    zero_proved asked proof e none stands r same =
-        subst (IsAnswer c) (sym same) (λ w o. (record { choices = []; reached = asked.reached; none = none; choice = refl; proof = proof; only = refl; stands = stands }, refl))
+      named : IsNamed (length chosen.encodings) e encodings
+      named = got_last chosen.encodings e
 
-    pub spent : AsksValues c [] sizes → (e : Encoded) (log : RefutationView) (first : ℕ) → IsSpent f budget Whole sizes 1 (hard_of f Whole sizes ++ live_of f Whole sizes) e log first
-        → (r : Answer) → r ≡ record { outcome = GaveUp Hard e log first; change = None } → IsAnswer c r
-    spent asked e log first is r same = subst (IsAnswer c) (sym same) (λ w o. (record { choices = []; sizes = sizes; asks = asked; size_bits = 1; spent = is }, refl))
+      all_proved : (fates : List Bool) (ds : List Dropped) → AreProved c.frame sizes chosen.values fates (length chosen.encodings) e ds → DropsAreProved c is.choices sizes fates encodings ds
+      all_proved fates [] h = tt
+      all_proved fates (d ∷ ds) h = (subst (λ (fixed : List (ℕ × ℕ)). StandsForDrop c.frame sizes fixed fates d.rank encodings d.proof) is.chosen (h.0 encodings named), all_proved fates ds h.1)
+
+      pub one_solved : (m : Met) → IsMet c.frame sizes chosen.values (length chosen.encodings) e m → (a : Reading) → IsSolution c is.choices sizes m.fates.items a
+          → (r : Answer) → r ≡ record { outcome = One m.kept m.dropped chosen.cycles encodings; change = Some (record { values = numbers_read sizes a (random_props c.frame); used = chosen.used }) } → IsAnswer c r
+      one_solved m met a solves r same =
+          subst (IsAnswer c) (sym same)
+          (λ w o. (
+            record { values = numbers_read sizes a (random_props c.frame); used = chosen.used },
+            record {
+              choices = is.choices;
+              sizes = sizes;
+              reached = asking.reached;
+              fates = m.fates.items;
+              gives = as_solved asking.not_preferred a solves refl;
+              uses = is.uses;
+              kept_ranks = met.kept;
+              dropped_ranks = met.dropped;
+              drops_proved = all_proved m.fates.items m.dropped met.proved;
+              cycles_proved = cycles_longer c chosen.encodings (e ∷ []) _ chosen.cycles is.proved;
+            },
+            refl,
+          ))
+
+      pub zero_proved : (proof : Proof) → (CanMeet c.frame sizes chosen.values (hard_of c.frame Whole sizes) → ⊥) → ((es : List Encoded) → IsNamed (length chosen.encodings) e es → StandsForHard c.frame sizes chosen.values es proof)
+          → (r : Answer) → r ≡ record { outcome = Zero Whole chosen.values sizes (proof ∷ []) (chosen.encodings ++ e ∷ []); change = None } → IsAnswer c r
+      zero_proved proof none stands r same =
+          subst (IsAnswer c) (sym same)
+          (λ w o. (
+            record {
+              choices = is.choices;
+              reached = asking.reached;
+              none = subst (λ (fixed : List (ℕ × ℕ)). CanMeet c.frame sizes fixed (hard_of c.frame Whole sizes) → ⊥) is.chosen none;
+              choice = is.chosen;
+              proof = proof;
+              only = refl;
+              stands = stands encodings named;
+            },
+            refl,
+          ))
+
+      gives_up : (rank : Option ℕ) (log : RefutationView) (first : ℕ) → IsAskedFor c.frame sizes chosen.values rank → IsSpent c.frame c.budget Whole sizes 1 (hard_of c.frame Whole sizes ++ live_of c.frame Whole sizes) e log first
+          → GivesUp c (query_of rank) e log first
+      gives_up None log first asked_for spent = record { choices = is.choices; sizes = sizes; asks = asking; size_bits = 1; spent = spent }
+      gives_up (Some rank) log first asked_for spent = record {
+        choices = is.choices;
+        sizes = sizes;
+        asks = asking;
+        hard = subst (λ (fixed : List (ℕ × ℕ)). CanMeet c.frame sizes fixed (hard_of c.frame Whole sizes)) is.chosen asked_for.hard;
+        from = asked_for.from;
+        to = asked_for.to;
+        fates = asked_for.fates;
+        above = subst (λ (fixed : List (ℕ × ℕ)). Keeps (CanMeet c.frame sizes fixed) (hard_of c.frame Whole sizes) (take (rank - 1) (live_of c.frame Whole sizes)) asked_for.fates) is.chosen asked_for.above;
+        size_bits = 1;
+        spent = spent;
+      }
+
+      pub spent_asked : (rank : Option ℕ) (log : RefutationView) (first : ℕ) → IsAskedFor c.frame sizes chosen.values rank → IsSpent c.frame c.budget Whole sizes 1 (hard_of c.frame Whole sizes ++ live_of c.frame Whole sizes) e log first
+          → (r : Answer) → r ≡ record { outcome = GaveUp (query_of rank) e log first; change = None } → IsAnswer c r
+      spent_asked rank log first asked_for spent r same = subst (IsAnswer c) (sym same) (λ w o. (gives_up rank log first asked_for spent, refl))

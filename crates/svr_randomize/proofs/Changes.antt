@@ -26,6 +26,7 @@ use Rattle.svr_frame.specs.Sound.{SizeIsOf, IsSound, SizesFit}
 use Rattle.svr_frame_laws.proofs.Answers.{any_prop, found}
 use Rattle.svr_frame_laws.proofs.Readable.{number_fits}
 use Rattle.svr_call.specs.Call.{numbers_read, random_props}
+use Rattle.svr_cyclic.specs.Ends.{UsedFit}
 use Rattle.svr_randomize.specs.Answers.{changed, FitsIfChanged, CanBeWritten}
 
 -- ---- properties by their places
@@ -70,7 +71,7 @@ once t k (suc n) = by_test (t k) refl (once t (k + 1) n)
 
 -- ---- the rows of an assignment
 
-module _ (f : FrameTerm) (ns : List ℕ) (sound : IsSound f) (fit : SizesFit f ns) (a : Reading) (is : IsAssignment f Whole ns [] a) where
+module _ (f : FrameTerm) (ns : List ℕ) (sound : IsSound f) (fit : SizesFit f ns) (fixed : List (ℕ × ℕ)) (a : Reading) (is : IsAssignment f Whole ns fixed a) where
   abbrev row : ℕ → List ℕ
   row p = map (λ i. a.element p i) (range_with_len 0 (slice_index ns p))
 
@@ -96,7 +97,7 @@ module _ (f : FrameTerm) (ns : List ℕ) (sound : IsSound f) (fit : SizesFit f n
       short = subst (λ (n : ℕ). n ≤ ELEMENT_LIMIT) (sym long) (fit.most p);
       within =
           numbers_below (slice_index_or f.class.props p any_prop).kind.width p 0 (slice_index ns p)
-          (λ i. subst (λ (w : ℕ). a.element p i < 2 ^ w) (width_at f.class.props p lt) (number_fits f a ns sound fit Whole [] is p i));
+          (λ i. subst (λ (w : ℕ). a.element p i < 2 ^ w) (width_at f.class.props p lt) (number_fits f a ns sound fit Whole fixed is p i));
     },
   )
     where
@@ -117,13 +118,13 @@ module _ (f : FrameTerm) (ns : List ℕ) (sound : IsSound f) (fit : SizesFit f n
   props_read [] = refl
   props_read (p ∷ ps) = ap (λ (qs : List ℕ). p ∷ qs) (props_read ps)
 
-  pub numbers_fit : FitsChange f.class (record { values = numbers_read ns a (random_props f); used = [] })
-  numbers_fit = record {
+  pub numbers_fit : (used : List Replacement) → UsedFit f.class used → FitsChange f.class (record { values = numbers_read ns a (random_props f); used = used })
+  numbers_fit used h = record {
     values = rows_fit (is_random f) 0 (length f.class.props) (omega arith);
     values_once = subst AreDistinct (sym (props_read (random_props f))) (once (is_random f) 0 (length f.class.props));
-    used = All-nil (λ (r : Replacement). r.prop < length f.class.props);
-    rising = All-nil (λ (r : Replacement). IsStrictlyIncreasing r.numbers);
-    used_once = tt;
+    used = h.props;
+    rising = h.rising;
+    used_once = h.once;
   }
 
 -- ---- a change that fits can be written

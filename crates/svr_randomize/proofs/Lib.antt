@@ -1,6 +1,5 @@
-pub mod Turned
-pub mod Fixed
-pub mod OfState
-pub mod Closed
+pub mod Ranks
+pub mod Named
+pub mod Items
 pub mod Changes
 pub mod Answered

@@ -1,19 +1,19 @@
 // What a call answers, and what it changes.
 
-ghost use Rattle.std.specs.Prelude.{◌≡◌, ◌≤◌, ◌∷◌, [], None, Some, length, IfOk};
+ghost use Rattle.std.specs.Prelude.{◌≡◌, ◌≤◌, ◌∷◌, ◌++◌, [], None, Some, length, IfOk};
 ghost use Rattle.svr_limits.specs.declared.limit.TheConstants.{PROPERTY_LIMIT};
 ghost use Rattle.svr_eval.specs.Reading.{reading_of};
-ghost use Rattle.svr_frame.specs.declared.part.Part.TheVariants.{All as Whole};
+ghost use Rattle.svr_frame.specs.declared.part.Part.TheVariants.{Randc, Sizes, All as Whole};
 ghost use Rattle.svr_frame.specs.Frame.{frame_term};
-ghost use Rattle.svr_call.specs.declared.outcome.Query.TheVariants.{Hard};
-ghost use Rattle.svr_call.specs.declared.outcome.Outcome.TheVariants.{One, Zero, GaveUp, TooHeavy};
+ghost use Rattle.svr_call.specs.declared.outcome.Outcome.TheVariants.{One, Zero, GaveUp, TooHeavy, SizeCap};
 ghost use Rattle.svr_call.specs.Call.{numbers_read, random_props};
 
 use crate::memory::NoMemory;
 use sqlite_items::Items;
 use std::alloc::Global;
-use svr_call::{Outcome, Query};
+use svr_call::{Dropped, Outcome, Query};
 use svr_chain::Refutation;
+use svr_cyclic::Chosen;
 use svr_encoded::Encoded;
 use svr_eval::Assign;
 use svr_frame::{Frame, Part};
@@ -28,33 +28,60 @@ pub struct Answer {
     pub change: Option<Change>,
 }
 
-/// A phase weighs this.
-pub(crate) fn too_heavy(weight: u128) -> Answer
-    ensures { result ≡ record { outcome = TooHeavy weight; change = None } }
+/// An answer that changes nothing.
+fn unchanged(outcome: Outcome) -> Answer
+    ensures { result ≡ record { outcome = outcome; change = None } }
 {
     Answer {
-        outcome: Outcome::TooHeavy { weight },
+        outcome,
         change: None,
     }
 }
 
-/// 1, with the numbers of the random properties under an assignment.
+/// A phase weighs this.
+pub(crate) fn too_heavy(weight: u128) -> Answer
+    ensures { result ≡ record { outcome = TooHeavy weight; change = None } }
+{
+    unchanged(Outcome::TooHeavy { weight })
+}
+
+/// A question spent its budget.
+pub(crate) fn gave_up(query: Query, encoding: Encoded, log: Refutation, first: u64) -> Answer
+    ensures { result ≡ record { outcome = GaveUp query encoding log first; change = None } }
+{
+    unchanged(Outcome::GaveUp {
+        query,
+        encoding,
+        log,
+        first,
+    })
+}
+
+/// 1, with the numbers of the random properties under an assignment, the ranks of the kept soft items, and the proofs of the others.
 pub(crate) fn one(
     alloc: Global,
     frame: &Frame,
     sizes: &[u32],
     a: &Assign,
+    chosen: Chosen,
+    kept: Items<u32>,
+    dropped: Items<Dropped>,
 ) -> Result<Answer, NoMemory>
     requires { length (frame_term frame.now).class.props ≤ PROPERTY_LIMIT }
-    ensures { IfOk result (λ r. r ≡ record { outcome = One [] [] [] []; change = Some (record { values = numbers_read sizes.now (reading_of a.now) (random_props (frame_term frame.now)); used = [] }) }) }
+    ensures { IfOk result (λ r. r ≡ record { outcome = One kept dropped chosen.cycles chosen.encodings; change = Some (record { values = numbers_read sizes.now (reading_of a.now) (random_props (frame_term frame.now)); used = chosen.used }) }) }
 {
     let values = random_numbers(alloc, frame, sizes, a)?;
-    let used = Items::new(alloc);
+    let Chosen {
+        values: _chosen,
+        cycles,
+        used,
+        encodings,
+    } = chosen;
     let outcome = Outcome::One {
-        kept: Items::new(alloc),
-        dropped: Items::new(alloc),
-        cycles: Items::new(alloc),
-        encodings: Items::new(alloc),
+        kept,
+        dropped,
+        cycles,
+        encodings,
     };
     Ok(Answer {
         outcome,
@@ -71,7 +98,16 @@ fn alone<T: Drop>(alloc: Global, item: T) -> Result<Items<T>, NoMemory>
     Ok(items)
 }
 
-/// What an answer 0 carries.
+/// A list with one behind it.
+pub(crate) fn with_one_more<T: Drop>(items: Items<T>, item: T) -> Result<Items<T>, NoMemory>
+    ensures { IfOk result (λ more. more ≡ items ++ item ∷ []) }
+{
+    let mut more = items;
+    more.push(item)?;
+    Ok(more)
+}
+
+/// What an answer with one proof carries.
 #[derive(Drop)]
 struct Carried<P, E> {
     sizes: Items<u32>,
@@ -79,20 +115,21 @@ struct Carried<P, E> {
     encodings: Items<E>,
 }
 
-/// One proof over one encoding.
+/// One proof, whose encoding stands behind others.
 fn one_proof<P: Drop, E: Drop>(
     alloc: Global,
     sizes: &[u32],
     proof: P,
+    others: Items<E>,
     encoding: E,
 ) -> Result<Carried<P, E>, NoMemory>
     ensures sizes { IfOk result (λ r. r.sizes ≡ sizes.now) }
     ensures proofs { IfOk result (λ r. r.proofs ≡ proof ∷ []) }
-    ensures encodings { IfOk result (λ r. r.encodings ≡ encoding ∷ []) }
+    ensures encodings { IfOk result (λ r. r.encodings ≡ others ++ encoding ∷ []) }
 {
+    let encodings = with_one_more(others, encoding)?;
     let sizes = Items::from_slice(alloc, sizes)?;
     let proofs = alone(alloc, proof)?;
-    let encodings = alone(alloc, encoding)?;
     Ok(Carried {
         sizes,
         proofs,
@@ -100,41 +137,88 @@ fn one_proof<P: Drop, E: Drop>(
     })
 }
 
-/// 0: the hard items cannot be met at these sizes.
-pub(crate) fn zero(
+/// 0: no value of the next cyclic property fits.
+pub(crate) fn no_cyclic_value(
     alloc: Global,
-    sizes: &[u32],
-    proof: Proof,
-    encoding: Encoded,
-) -> Result<Answer, NoMemory>
-    ensures { IfOk result (λ r. r ≡ record { outcome = Zero Whole [] sizes.now (proof ∷ []) (encoding ∷ []); change = None }) }
+    chosen: Items<(u32, u64)>,
+    proofs: Items<Proof>,
+    encodings: Items<Encoded>,
+) -> Answer
+    ensures { result ≡ record { outcome = Zero Randc chosen [] proofs encodings; change = None } }
 {
-    let carried = one_proof(alloc, sizes, proof, encoding)?;
-    let outcome = Outcome::Zero {
-        phase: Part::All,
-        chosen: Items::new(alloc),
-        sizes: carried.sizes,
-        proofs: carried.proofs,
-        encodings: carried.encodings,
-    };
-    Ok(Answer {
-        outcome,
-        change: None,
+    unchanged(Outcome::Zero {
+        phase: Part::Randc,
+        chosen,
+        sizes: Items::new(alloc),
+        proofs,
+        encodings,
     })
 }
 
-/// The question for values spent its budget.
-pub(crate) fn gave_up(encoding: Encoded, log: Refutation, first: u64) -> Answer
-    ensures { result ≡ record { outcome = GaveUp Hard encoding log first; change = None } }
+/// 0: there are no sizes.
+pub(crate) fn no_sizes(
+    alloc: Global,
+    chosen: Chosen,
+    proof: Proof,
+    encoding: Encoded,
+) -> Result<Answer, NoMemory>
+    ensures { IfOk result (λ r. r ≡ record { outcome = Zero Sizes chosen.values [] (proof ∷ []) (encoding ∷ []); change = None }) }
 {
-    let query = Query::Hard;
-    Answer {
-        outcome: Outcome::GaveUp {
-            query,
-            encoding,
-            log,
-            first,
-        },
-        change: None,
-    }
+    let Chosen {
+        values,
+        cycles: _cycles,
+        used: _used,
+        encodings: _encodings,
+    } = chosen;
+    let carried = one_proof(alloc, &[], proof, Items::new(alloc), encoding)?;
+    Ok(unchanged(Outcome::Zero {
+        phase: Part::Sizes,
+        chosen: values,
+        sizes: carried.sizes,
+        proofs: carried.proofs,
+        encodings: carried.encodings,
+    }))
+}
+
+/// Sizes beyond the cap alone can be.
+pub(crate) fn beyond_cap(
+    alloc: Global,
+    sizes: Items<u32>,
+    proof: Proof,
+    encoding: Encoded,
+) -> Result<Answer, NoMemory>
+    ensures { IfOk result (λ r. r ≡ record { outcome = SizeCap sizes (proof ∷ []) (encoding ∷ []); change = None }) }
+{
+    let carried = one_proof(alloc, &[], proof, Items::new(alloc), encoding)?;
+    Ok(unchanged(Outcome::SizeCap {
+        sizes,
+        proofs: carried.proofs,
+        encodings: carried.encodings,
+    }))
+}
+
+/// 0: the hard items cannot be met at these sizes.
+pub(crate) fn no_values(
+    alloc: Global,
+    sizes: &[u32],
+    chosen: Chosen,
+    proof: Proof,
+    encoding: Encoded,
+) -> Result<Answer, NoMemory>
+    ensures { IfOk result (λ r. r ≡ record { outcome = Zero Whole chosen.values sizes.now (proof ∷ []) (chosen.encodings ++ encoding ∷ []); change = None }) }
+{
+    let Chosen {
+        values,
+        cycles: _cycles,
+        used: _used,
+        encodings,
+    } = chosen;
+    let carried = one_proof(alloc, sizes, proof, encodings, encoding)?;
+    Ok(unchanged(Outcome::Zero {
+        phase: Part::All,
+        chosen: values,
+        sizes: carried.sizes,
+        proofs: carried.proofs,
+        encodings: carried.encodings,
+    }))
 }

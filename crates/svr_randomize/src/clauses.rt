@@ -1,84 +1,54 @@
-// The hard items of a call as clauses.
+// The items of the last phase of a call, and as clauses.
 
-ghost use Rattle.std.specs.Prelude.{◌≡◌, [], map, reverse, IfOk};
+ghost use Rattle.std.specs.Prelude.{◌≡◌, ◌++◌, map, IfOk};
 ghost use Rattle.svr_typed.specs.ExprTerm.{expr_term};
 ghost use Rattle.svr_frame.specs.declared.part.Part.TheVariants.{All as Whole};
 ghost use Rattle.svr_frame.specs.Frame.{frame_term};
-ghost use Rattle.svr_frame.specs.Phases.{hard_of, live_of, unknowns_of};
 ghost use Rattle.svr_frame.specs.Sound.{IsSound, SizesFit};
-ghost use Rattle.svr_phase.specs.Spent.{closed_at};
 ghost use Rattle.svr_question.specs.Ends.{EncodesCall};
+ghost use Rattle.svr_randomize.specs.Answers.{AreItems};
 
 use crate::memory::NoMemory;
 use sqlite_items::Items;
 use std::alloc::Global;
-use svr_blast::blast;
+use svr_clauses::clauses_of;
 use svr_encoded::Encoded;
-use svr_expand::{expand, unknowns};
-use svr_frame::{Frame, Part, Slot};
+use svr_expand::{Expansion, expand};
+use svr_frame::{Frame, Part};
 use svr_typed::TExpr;
 
-/// The elements of a list from its end to its front.
-#[tactic(auto, using(crate::proofs::Turned::turned))]
-fn from_end<T: Drop>(alloc: Global, items: Items<T>) -> Result<Vec<T>, NoMemory>
-    ensures { IfOk result (λ v. v.items ≡ reverse items) }
-{
-    let mut left = items;
-    let mut turned = Vec::new(alloc);
-    while let Some(item) = left.pop() {
-        turned.push(item)?;
-    }
-    Ok(turned)
-}
-
-/// The elements of a list, in a vector.
-#[tactic(auto, using(crate::proofs::Turned::turned_back))]
-fn in_vector<T: Drop>(alloc: Global, items: Items<T>) -> Result<Vec<T>, NoMemory>
-    ensures { IfOk result (λ v. v.items ≡ items) }
-{
-    let mut turned = from_end(alloc, items)?;
-    turned.reverse();
-    Ok(turned)
-}
-
-/// What the last phase looks for.
-fn slots(alloc: Global, frame: &Frame, sizes: &[u32]) -> Result<Vec<Slot>, NoMemory>
-    requires { IsSound (frame_term frame.now) }
-    ensures { IfOk result (λ slots. slots.items ≡ unknowns_of (frame_term frame.now) Whole sizes.now) }
-{
-    let found = unknowns(alloc, frame, Part::All, sizes)?;
-    Ok(Vec::from_slice(alloc, found.as_slice())?)
-}
-
-/// The hard items of the last phase as closed expressions.
-pub(crate) fn hard_items(
-    alloc: Global,
-    frame: &Frame,
-    sizes: &[u32],
-) -> Result<Items<TExpr>, NoMemory>
+/// The hard and the live soft items of the last phase as closed expressions.
+pub(crate) fn items_of(alloc: Global, frame: &Frame, sizes: &[u32]) -> Result<Expansion, NoMemory>
     requires sound { IsSound (frame_term frame.now) }
     requires fit { SizesFit (frame_term frame.now) sizes.now }
-    ensures { IfOk result (λ hard. map expr_term hard ≡ closed_at (frame_term frame.now) sizes.now (hard_of (frame_term frame.now) Whole sizes.now)) }
+    ensures { IfOk result (λ x. AreItems (frame_term frame.now) sizes.now x) }
 {
-    let expansion = expand(alloc, frame, Part::All, sizes)?;
-    Ok(expansion.hard)
+    Ok(expand(alloc, frame, Part::All, sizes)?)
 }
 
-/// Clauses for the hard items of a call that has no others.
+/// The hard items, and the soft ones behind them.
+fn in_one_list(items: Expansion) -> Result<Items<TExpr>, NoMemory>
+    ensures { IfOk result (λ all. map expr_term all ≡ map expr_term items.hard ++ map expr_term items.soft) }
+{
+    let Expansion { hard, soft } = items;
+    let mut all = hard;
+    all.append(soft)?;
+    Ok(all)
+}
+
+/// Clauses for the items of a call: the hard ones, and behind them the soft ones.
 pub(crate) fn encoded(
     alloc: Global,
     frame: &Frame,
     sizes: &[u32],
-    hard: Items<TExpr>,
+    items: Expansion,
 ) -> Result<Encoded, NoMemory>
     requires sound { IsSound (frame_term frame.now) }
     requires fit { SizesFit (frame_term frame.now) sizes.now }
-    requires hard { map expr_term hard ≡ closed_at (frame_term frame.now) sizes.now (hard_of (frame_term frame.now) Whole sizes.now) }
-    requires alone { live_of (frame_term frame.now) Whole sizes.now ≡ [] }
+    requires items { AreItems (frame_term frame.now) sizes.now items }
     ensures { IfOk result (λ e. EncodesCall (frame_term frame.now) sizes.now e) }
 {
-    let items = in_vector(alloc, hard)?;
-    let slots = slots(alloc, frame, sizes)?;
-    let encoding = blast(alloc, items, frame, Part::All, sizes, slots, 1)?;
+    let all = in_one_list(items)?;
+    let encoding = clauses_of(alloc, frame, Part::All, sizes, all, 1)?;
     Ok(encoding)
 }

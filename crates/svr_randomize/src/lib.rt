@@ -1,4 +1,4 @@
-//! One call of `randomize` in a frame of hard items (IEEE 1800-2017, 18.6): 1 with its values, 0 with its proof, a question that spent its budget, or a phase that weighs too much.
+//! One call of `randomize` (IEEE 1800-2017, 18.6): 1 with its values and the soft items that it keeps, 0 with its proofs, sizes beyond the cap, a question that spent its budget, or a phase that weighs too much.
 //!
 //! `randomize` makes the step of `svr_call` (`CallStep`). What crates above cite beside it: the words of `specs/Answers.antt` (what an answer makes of a world).
 #![tactic(auto)]

@@ -41,3 +41,21 @@ impl From<svr_solution::NoMemory> for NoMemory {
         NoMemory
     }
 }
+
+impl From<svr_clauses::NoMemory> for NoMemory {
+    fn from(_error: svr_clauses::NoMemory) -> NoMemory {
+        NoMemory
+    }
+}
+
+impl From<svr_cyclic::NoMemory> for NoMemory {
+    fn from(_error: svr_cyclic::NoMemory) -> NoMemory {
+        NoMemory
+    }
+}
+
+impl From<svr_sized::NoMemory> for NoMemory {
+    fn from(_error: svr_sized::NoMemory) -> NoMemory {
+        NoMemory
+    }
+}

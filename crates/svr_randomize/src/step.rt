@@ -6,7 +6,6 @@ ghost use Rattle.svr_world.specs.Fits.{FitsClass};
 ghost use Rattle.svr_frame.specs.Frame.{frame_term};
 ghost use Rattle.svr_frame.specs.Sound.{IsSound};
 ghost use Rattle.svr_call.specs.Call.{CallStep};
-ghost use Rattle.svr_hard.specs.Hard.{IsHard};
 ghost use Rattle.svr_randomize.specs.Answers.{changed, CanBeWritten};
 
 use crate::answer::Answer;
@@ -29,7 +28,7 @@ fn write(world: &mut World, object: u32, change: Option<Change>)
     }
 }
 
-/// One call of `randomize` (IEEE 1800-2017, 18.6) on an object, in a frame of hard items. All memory is taken before the world is changed.
+/// One call of `randomize` (IEEE 1800-2017, 18.6) on an object, in its frame. All memory is taken before the world is changed.
 pub fn randomize(
     alloc: Global,
     world: &mut World,
@@ -39,15 +38,15 @@ pub fn randomize(
     opts: Options,
 ) -> Result<Outcome, NoMemory>
     requires sound { IsSound (frame_term frame.now) }
-    requires hard { IsHard (frame_term frame.now) }
     requires budget { 1 ≤ opts.budget }
+    requires some { 1 ≤ opts.size_cap }
     requires cap { opts.size_cap ≤ 2048 }
     requires made { IsMade world.old object }
     ensures step { IfOk result (λ outcome. CallStep world.old object (frame_term frame.now) number opts outcome world.new) }
     ensures fits { OnOk result (FitsClass (frame_term frame.now).class (object_of world.old object) → FitsClass (frame_term frame.now).class (object_of world.new object)) }
     ensures failed { OnErr result (world.new ≡ world.old) }
 {
-    let found = answer_in(alloc, frame, number, opts)?;
+    let found = answer_in(alloc, frame, world, object, number, opts)?;
     let Answer { outcome, change } = found;
     write(world, object, change);
     Ok(outcome)

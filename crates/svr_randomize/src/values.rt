@@ -1,52 +1,108 @@
 // The last phase of a call: its values.
 
-ghost use Rattle.std.specs.Prelude.{◌≡◌, ◌≤◌, ℕ, List, [], map, IfOk};
-ghost use Rattle.svr_typed.specs.ExprTerm.{expr_term};
+ghost use Rattle.std.specs.Prelude.{◌≡◌, ◌≤◌, ◌+◌, ◌++◌, [], Some, ℕ, List, map, length, IfOk};
+ghost use Rattle.std.specs.List.{range_with_len};
+ghost use Rattle.svr_limits.specs.declared.limit.TheConstants.{PROPERTY_LIMIT};
 ghost use Rattle.svr_eval.specs.Reading.{reading_of};
 ghost use Rattle.svr_frame.specs.declared.part.Part.TheVariants.{All as Whole};
 ghost use Rattle.svr_frame.specs.Frame.{frame_term};
 ghost use Rattle.svr_frame.specs.Phases.{hard_of, live_of};
+ghost use Rattle.svr_frame.specs.Satisfaction.{IsAssignment};
 ghost use Rattle.svr_frame.specs.Sound.{IsSound, SizesFit};
-ghost use Rattle.svr_phase.specs.Spent.{closed_at};
-ghost use Rattle.svr_call.specs.Call.{ReachesValues};
-ghost use Rattle.svr_solution.specs.Calls.{HasNoCyclic};
-ghost use Rattle.svr_randomize.specs.Answers.{call_with, IsWish, IsAnswer, IsAnswerAt, FitsIfChanged};
+ghost use Rattle.svr_phase.specs.Sizes.{meets_all};
+ghost use Rattle.svr_phase.specs.Chosen.{AreCyclicValues};
+ghost use Rattle.svr_call.specs.declared.outcome.Outcome.TheVariants.{One};
+ghost use Rattle.svr_call.specs.Call.{numbers_read, random_props};
+ghost use Rattle.svr_cyclic.specs.Ends.{UsedFit};
+ghost use Rattle.svr_randomize.specs.Answers.{AreItems, IsAnswerAt, IsAnswerOf, FitsIfChanged};
 
 use crate::answer::{Answer, one};
 use crate::asked::asked_answer;
-use crate::clauses::hard_items;
+use crate::clauses::items_of;
 use crate::memory::NoMemory;
 use sqlite_items::Items;
 use std::alloc::Global;
+use svr_cyclic::Chosen;
 use svr_eval::Assign;
+use svr_expand::Expansion;
 use svr_frame::Frame;
 use svr_phase::Options;
-use svr_typed::TExpr;
 use svr_values::{all_hold, wanted};
 
-/// The wanted values where they meet the hard items of a call that has no others, else what a search finds.
+/// The ranks of so many soft items. Ranks are numbers of 32 bits.
+fn all_ranks(alloc: Global, count: usize) -> Result<Items<u32>, NoMemory>
+    ensures { IfOk result (λ ranks. ranks ≡ map (λ i. i + 1) (range_with_len 0 count)) }
+{
+    if count > u32::MAX as usize {
+        return Err(NoMemory);
+    }
+    let mut ranks = Items::new(alloc);
+    for place in 0..count as u32 {
+        ranks.push(place + 1)?;
+    }
+    Ok(ranks)
+}
+
+/// 1, with the wanted values, which meet all items.
+fn preferred_answer(
+    alloc: Global,
+    frame: &Frame,
+    sizes: &[u32],
+    soft: usize,
+    chosen: Chosen,
+    wanted: &Assign,
+) -> Result<Answer, NoMemory>
+    requires { length (frame_term frame.now).class.props ≤ PROPERTY_LIMIT }
+    ensures { IfOk result (λ r. r ≡ record { outcome = One (map (λ i. i + 1) (range_with_len 0 soft)) [] chosen.cycles chosen.encodings; change = Some (record { values = numbers_read sizes.now (reading_of wanted.now) (random_props (frame_term frame.now)); used = chosen.used }) }) }
+{
+    let kept = all_ranks(alloc, soft)?;
+    one(alloc, frame, sizes, wanted, chosen, kept, Items::new(alloc))
+}
+
+/// Whether the wanted values meet all items.
+fn meet_items(frame: &Frame, sizes: &[u32], items: &Expansion, wanted: &Assign) -> bool
+    requires sound { IsSound (frame_term frame.now) }
+    requires fit { SizesFit (frame_term frame.now) sizes.now }
+    requires items { AreItems (frame_term frame.now) sizes.now items.now }
+    requires wish { (fixed : List (ℕ × ℕ)) × IsAssignment (frame_term frame.now) Whole sizes.now fixed (reading_of wanted.now) }
+    ensures { result ≡ meets_all (reading_of wanted.now) (hard_of (frame_term frame.now) Whole sizes.now ++ live_of (frame_term frame.now) Whole sizes.now) }
+{
+    let hard = items.hard.as_slice();
+    let soft = items.soft.as_slice();
+    let hard_met = all_hold(hard, wanted);
+    if !hard_met {
+        return false;
+    }
+    let soft_met = all_hold(soft, wanted);
+    soft_met
+}
+
+/// The wanted values where they meet all items, else what a search finds.
 fn decided(
     alloc: Global,
     frame: &Frame,
     sizes: &[u32],
-    hard: Items<TExpr>,
+    items: Expansion,
+    chosen: Chosen,
     wanted: &Assign,
     budget: u64,
 ) -> Result<Answer, NoMemory>
     requires sound { IsSound (frame_term frame.now) }
     requires fit { SizesFit (frame_term frame.now) sizes.now }
-    requires not_cyclic { HasNoCyclic (frame_term frame.now) }
-    requires alone { live_of (frame_term frame.now) Whole sizes.now ≡ [] }
-    requires wish { IsWish (frame_term frame.now) sizes.now (reading_of wanted.now) }
-    requires hard { map expr_term hard ≡ closed_at (frame_term frame.now) sizes.now (hard_of (frame_term frame.now) Whole sizes.now) }
+    requires items { AreItems (frame_term frame.now) sizes.now items }
+    requires chosen { AreCyclicValues (frame_term frame.now) chosen.values }
+    requires few { length chosen.encodings ≤ 1 }
+    requires used { UsedFit (frame_term frame.now).class chosen.used }
+    requires wish { IsAssignment (frame_term frame.now) Whole sizes.now chosen.values (reading_of wanted.now) }
     requires budget { 1 ≤ budget }
-    ensures answer { IfOk result (λ r. IsAnswerAt (frame_term frame.now) sizes.now budget (reading_of wanted.now) r) }
+    ensures answer { IfOk result (λ r. IsAnswerAt (frame_term frame.now) sizes.now chosen budget (reading_of wanted.now) r) }
     ensures fits { IfOk result (λ r. FitsIfChanged (frame_term frame.now).class r.change) }
 {
-    if all_hold(hard.as_slice(), wanted) {
-        return one(alloc, frame, sizes, wanted);
+    if meet_items(frame, sizes, &items, wanted) {
+        let soft = items.soft.len();
+        return preferred_answer(alloc, frame, sizes, soft, chosen, wanted);
     }
-    asked_answer(alloc, frame, sizes, hard, wanted, budget)
+    asked_answer(alloc, frame, sizes, items, chosen, wanted, budget)
 }
 
 /// The answer of a call that has come to its values.
@@ -54,19 +110,22 @@ pub(crate) fn values_answer(
     alloc: Global,
     frame: &Frame,
     sizes: &[u32],
+    chosen: Chosen,
     number: u64,
     opts: Options,
 ) -> Result<Answer, NoMemory>
     requires sound { IsSound (frame_term frame.now) }
     requires fit { SizesFit (frame_term frame.now) sizes.now }
-    requires not_cyclic { HasNoCyclic (frame_term frame.now) }
-    requires alone { live_of (frame_term frame.now) Whole sizes.now ≡ [] }
+    requires chosen { AreCyclicValues (frame_term frame.now) chosen.values }
+    requires few { length chosen.encodings ≤ 1 }
+    requires used { UsedFit (frame_term frame.now).class chosen.used }
     requires budget { 1 ≤ opts.budget }
     requires cap { opts.size_cap ≤ 2048 }
-    ensures answer { IfOk result (λ r. (used : List (List ℕ)) → ReachesValues (call_with (frame_term frame.now) used number opts) [] sizes.now → IsAnswer (call_with (frame_term frame.now) used number opts) r) }
+    ensures answer { IfOk result (λ r. IsAnswerOf (frame_term frame.now) sizes.now chosen number opts r) }
     ensures fits { IfOk result (λ r. FitsIfChanged (frame_term frame.now).class r.change) }
 {
-    let preferred = wanted(alloc, frame, sizes, number, opts)?;
-    let hard = hard_items(alloc, frame, sizes)?;
-    decided(alloc, frame, sizes, hard, &preferred, opts.budget)
+    let values = chosen.values.as_slice();
+    let preferred = wanted(alloc, frame, sizes, values, number, opts)?;
+    let items = items_of(alloc, frame, sizes)?;
+    decided(alloc, frame, sizes, items, chosen, &preferred, opts.budget)
 }

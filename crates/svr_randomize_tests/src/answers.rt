@@ -6,37 +6,54 @@ ghost use Rattle.svr_frame.specs.Frame.{frame_term};
 ghost use Rattle.svr_frame.specs.Sound.{IsSound};
 
 use crate::form::Form;
+use crate::proofs_of::{Judged, proofs_of};
 use crate::sample::{sample, world};
 use std::alloc::Global;
 use std::test::Fail;
 use svr_call::Outcome;
 use svr_frame::Frame;
-use svr_hard::is_hard;
 use svr_phase::Options;
 use svr_randomize::randomize;
 use svr_typed::NoMemory;
 use svr_world::World;
 
-/// What a call answered, with the values that it left.
+/// The kinds of answers.
 #[derive(Clone, Copy, Debug, PartialEq, Eq)]
-enum Seen {
-    One { x: u64, y: u64 },
+enum Kind {
+    One,
     Zero,
     GaveUp,
     TooHeavy,
-    Other,
+    SizeCap,
 }
 
-fn told(outcome: &Outcome, world: &World) -> Seen {
+/// What a call answered, with its proofs, and what it left of the object.
+#[derive(Clone, Copy, Debug, PartialEq, Eq)]
+struct Seen {
+    kind: Kind,
+    judged: Judged,
+    x: u64,
+    y: u64,
+    size: u32,
+}
+
+fn kind_of(outcome: &Outcome) -> Kind {
     match outcome {
-        Outcome::One { .. } => Seen::One {
-            x: world.get(0, 0, 0),
-            y: world.get(0, 1, 0),
-        },
-        Outcome::Zero { .. } => Seen::Zero,
-        Outcome::GaveUp { .. } => Seen::GaveUp,
-        Outcome::TooHeavy { .. } => Seen::TooHeavy,
-        Outcome::SizeCap { .. } => Seen::Other,
+        Outcome::One { .. } => Kind::One,
+        Outcome::Zero { .. } => Kind::Zero,
+        Outcome::GaveUp { .. } => Kind::GaveUp,
+        Outcome::TooHeavy { .. } => Kind::TooHeavy,
+        Outcome::SizeCap { .. } => Kind::SizeCap,
+    }
+}
+
+fn told(alloc: Global, outcome: &Outcome, world: &World) -> Seen {
+    Seen {
+        kind: kind_of(outcome),
+        judged: proofs_of(alloc, outcome),
+        x: world.get(0, 0, 0),
+        y: world.get(0, 1, 0),
+        size: world.size(0, 4),
     }
 }
 
@@ -57,11 +74,8 @@ fn answer(
         size_cap: 16,
         proofs: false,
     };
-    if !is_hard(frame) {
-        return Ok(Seen::Other);
-    }
     match randomize(alloc, world, 0, frame, 1, opts) {
-        Ok(outcome) => Ok(told(&outcome, world)),
+        Ok(outcome) => Ok(told(alloc, &outcome, world)),
         Err(_) => Err(NoMemory),
     }
 }
@@ -76,10 +90,7 @@ fn asked(alloc: Global, form: Form, seed: u64, budget: u64) -> Result<Seen, NoMe
 }
 
 fn adds_up(seen: Seen) -> bool {
-    match seen {
-        Seen::One { x, y } => u128::from(x) + u128::from(y) == 300,
-        _ => false,
-    }
+    seen.kind == Kind::One && u128::from(seen.x) + u128::from(seen.y) == 300
 }
 
 #[test]
@@ -102,20 +113,53 @@ fn free_values_are_the_words(rt: HostRuntime) -> Result<(), Fail> {
     Ok(())
 }
 
+/// Whether a call answers so, with so many proofs, which the checker accepts.
+fn is_so(
+    alloc: Global,
+    form: Form,
+    budget: u64,
+    kind: Kind,
+    proofs: u64,
+) -> Result<bool, NoMemory> {
+    if budget == 0 {
+        return Ok(false);
+    }
+    let seen = asked(alloc, form, 7, budget)?;
+    let all = Judged {
+        proofs,
+        accepted: proofs,
+    };
+    Ok(seen.kind == kind && seen.judged == all)
+}
+
 #[test]
-fn other_answers(rt: HostRuntime) -> Result<(), Fail> {
-    for (form, budget, answer) in [
-        (Form::Never, 1000, Seen::Zero),
-        (Form::Product, 100_000, Seen::Zero),
-        (Form::Product, 1, Seen::GaveUp),
-        (Form::Heavy, 1, Seen::TooHeavy),
-        (Form::Soft, 1, Seen::Other),
+fn answers_carry_their_proofs(rt: HostRuntime) -> Result<(), Fail> {
+    for (form, budget, kind, proofs) in [
+        (Form::Never, 1000, Kind::Zero, 1),
+        (Form::Product, 100_000, Kind::Zero, 1),
+        (Form::Product, 1, Kind::GaveUp, 0),
+        (Form::Heavy, 1, Kind::TooHeavy, 0),
+        (Form::Soft, 1000, Kind::One, 0),
+        (Form::Overruled, 1000, Kind::One, 1),
+        (Form::Cyclic, 1000, Kind::One, 0),
+        (Form::Sized, 1000, Kind::One, 0),
+        (Form::NoSize, 1000, Kind::Zero, 1),
+        (Form::Large, 1000, Kind::SizeCap, 1),
     ] {
-        assert_eq!(rt;
-            asked(rt.alloc(), form, 7, budget)?,
-            answer,
+        assert!(rt;
+            is_so(rt.alloc(), form, budget, kind, proofs)?,
             "{form:?} {budget}"
         );
     }
+    Ok(())
+}
+
+// The later of two soft items is kept, and the object has the size that was chosen.
+#[test]
+fn what_is_left(rt: HostRuntime) -> Result<(), Fail> {
+    assert_eq!(rt; asked(rt.alloc(), Form::Soft, 3, 1000)?.x, 1);
+    assert_eq!(rt; asked(rt.alloc(), Form::Overruled, 3, 1000)?.x, 2);
+    assert_eq!(rt; asked(rt.alloc(), Form::Sized, 3, 1000)?.size, 3);
+    assert_eq!(rt; asked(rt.alloc(), Form::Large, 3, 1000)?.size, 0);
     Ok(())
 }

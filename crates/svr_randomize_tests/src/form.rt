@@ -1,6 +1,6 @@
 // The items that are asked.
 
-/// An item over `rand bit [7:0] x, y`, beside `bit s [200]`.
+/// The items of a call over `rand bit [7:0] x, y; bit s [200]; randc bit [1:0] c; rand bit d [];`. The last two are random in the calls that name them alone.
 #[derive(Clone, Copy, Debug)]
 pub enum Form {
     /// `x == x`
@@ -15,4 +15,14 @@ pub enum Form {
     Heavy,
     /// `soft x == 8'd1`
     Soft,
+    /// `soft x == 8'd1; soft x == 8'd2`
+    Overruled,
+    /// `x == x`, and `c` is random
+    Cyclic,
+    /// `d.size() == 32'd3`
+    Sized,
+    /// `d.size() != d.size()`
+    NoSize,
+    /// `d.size() == 32'd17`
+    Large,
 }

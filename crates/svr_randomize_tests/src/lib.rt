@@ -1,4 +1,4 @@
-//! The tests of calls of `randomize`: one answer of each kind, with ample memory.
+//! The tests of calls of `randomize`: answers of each kind with their proofs, which the checker of derivations judges, with ample memory.
 //!
 //! They stand apart, so that the layer is proved once.
 #![tactic(auto)]
@@ -6,6 +6,8 @@
 #[cfg(test)]
 mod answers;
 mod form;
+#[cfg(test)]
+mod proofs_of;
 #[cfg(test)]
 mod sample;
 

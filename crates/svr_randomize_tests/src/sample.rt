@@ -1,6 +1,6 @@
-//! A call with one item, and a world with its object.
+//! A call with few items, and a world with its object.
 
-ghost use Rattle.std.specs.Prelude.{◌≡◌, ◌∷◌, [], None, replicate, IfOk};
+ghost use Rattle.std.specs.Prelude.{◌≡◌, ◌∷◌, [], false, None, map, replicate, IfOk};
 ghost use Rattle.svr_typed.specs.ExprTerm.{expr_term};
 ghost use Rattle.svr_typed.specs.ItemTerm.{item_term, plain};
 ghost use Rattle.svr_typed.specs.ClassTerm.{flat_term};
@@ -48,6 +48,8 @@ fn class(alloc: Global) -> Result<FlatClass, NoMemory>
     props.push(declared(alloc, Rand::Rand, ArrayKind::Scalar, 8, true))?;
     props.push(declared(alloc, Rand::Rand, ArrayKind::Scalar, 8, true))?;
     props.push(declared(alloc, Rand::State, ArrayKind::Fixed(200), 1, false))?;
+    props.push(declared(alloc, Rand::Randc, ArrayKind::Scalar, 2, true))?;
+    props.push(declared(alloc, Rand::Rand, ArrayKind::Dynamic, 1, true))?;
     Ok(FlatClass {
         props,
         blocks: Items::<TBlock>::new(alloc),
@@ -64,6 +66,13 @@ fn bits(width: u8, value: u64) -> TExpr
     ensures { expr_term result ≡ spec.bits width value }
 {
     TExpr::new(width, false, TNode::number(value, false))
+}
+
+/// `d.size()`
+fn length() -> TExpr
+    ensures { expr_term result ≡ spec.length_of }
+{
+    TExpr::new(32, true, TNode::size(4, 1))
 }
 
 fn applied(alloc: Global, op: BinOp) -> Result<TExpr, NoMemory>
@@ -93,30 +102,116 @@ fn alone(alloc: Global, item: TItem) -> Result<Items<TItem>, NoMemory>
     Ok(items)
 }
 
-fn heavy(alloc: Global) -> Result<TItem, NoMemory>
-    ensures { IfOk result (λ i. item_term i ≡ spec.item_of form.Heavy) }
+fn both(alloc: Global, first: TItem, later: TItem) -> Result<Items<TItem>, NoMemory>
+    ensures { IfOk result (λ items. items ≡ first ∷ later ∷ []) }
 {
-    let product = applied(alloc, BinOp::Multiply)?;
-    let inner = compared(alloc, false, BinOp::Equal, product, bits(64, 257))?;
-    Ok(TItem::foreach(2, 1, 1, alone(alloc, inner)?))
+    let mut items = alone(alloc, first)?;
+    items.push(later)?;
+    Ok(items)
 }
 
-fn item(alloc: Global, form: Form) -> Result<TItem, NoMemory>
-    ensures { IfOk result (λ i. item_term i ≡ spec.item_of form) }
+/// An item that is no soft one, alone.
+fn hard(alloc: Global, op: BinOp, left: TExpr, right: TExpr) -> Result<Items<TItem>, NoMemory>
+    ensures { IfOk result (λ is. map item_term is ≡ plain false (spec.compared op (expr_term left) (expr_term right)) None ∷ []) }
+{
+    let item = compared(alloc, false, op, left, right)?;
+    alone(alloc, item)
+}
+
+fn heavy(alloc: Global) -> Result<Items<TItem>, NoMemory>
+    ensures { IfOk result (λ is. map item_term is ≡ spec.items_for form.Heavy) }
+{
+    let product = applied(alloc, BinOp::Multiply)?;
+    let inner = hard(alloc, BinOp::Equal, product, bits(64, 257))?;
+    alone(alloc, TItem::foreach(2, 1, 1, inner))
+}
+
+fn soft(alloc: Global, value: u64) -> Result<TItem, NoMemory>
+    ensures { IfOk result (λ i. item_term i ≡ spec.soft_item value) }
+{
+    compared(alloc, true, BinOp::Equal, byte(0), bits(8, value))
+}
+
+fn kept(alloc: Global) -> Result<Items<TItem>, NoMemory>
+    ensures { IfOk result (λ is. map item_term is ≡ spec.items_for form.Soft) }
+{
+    let item = soft(alloc, 1)?;
+    alone(alloc, item)
+}
+
+fn overruled(alloc: Global) -> Result<Items<TItem>, NoMemory>
+    ensures { IfOk result (λ is. map item_term is ≡ spec.items_for form.Overruled) }
+{
+    let first = soft(alloc, 1)?;
+    let later = soft(alloc, 2)?;
+    both(alloc, first, later)
+}
+
+fn sum(alloc: Global) -> Result<Items<TItem>, NoMemory>
+    ensures { IfOk result (λ is. map item_term is ≡ spec.items_for form.Sum) }
+{
+    let sum = applied(alloc, BinOp::Add)?;
+    hard(alloc, BinOp::Equal, sum, bits(16, 300))
+}
+
+fn product(alloc: Global) -> Result<Items<TItem>, NoMemory>
+    ensures { IfOk result (λ is. map item_term is ≡ spec.items_for form.Product) }
+{
+    let product = applied(alloc, BinOp::Multiply)?;
+    hard(alloc, BinOp::Equal, product, bits(16, 257))
+}
+
+fn items(alloc: Global, form: Form) -> Result<Items<TItem>, NoMemory>
+    ensures { IfOk result (λ is. map item_term is ≡ spec.items_for form) }
 {
     match form {
-        Form::Free => compared(alloc, false, BinOp::Equal, byte(0), byte(0)),
-        Form::Sum => {
-            let sum = applied(alloc, BinOp::Add)?;
-            compared(alloc, false, BinOp::Equal, sum, bits(16, 300))
-        }
-        Form::Never => compared(alloc, false, BinOp::NotEqual, byte(0), byte(0)),
-        Form::Product => {
-            let product = applied(alloc, BinOp::Multiply)?;
-            compared(alloc, false, BinOp::Equal, product, bits(16, 257))
-        }
+        Form::Free => hard(alloc, BinOp::Equal, byte(0), byte(0)),
+        Form::Sum => sum(alloc),
+        Form::Never => hard(alloc, BinOp::NotEqual, byte(0), byte(0)),
+        Form::Product => product(alloc),
         Form::Heavy => heavy(alloc),
-        Form::Soft => compared(alloc, true, BinOp::Equal, byte(0), bits(8, 1)),
+        Form::Soft => kept(alloc),
+        Form::Overruled => overruled(alloc),
+        Form::Cyclic => hard(alloc, BinOp::Equal, byte(0), byte(0)),
+        Form::Sized => hard(alloc, BinOp::Equal, length(), bits(32, 3)),
+        Form::NoSize => hard(alloc, BinOp::NotEqual, length(), length()),
+        Form::Large => hard(alloc, BinOp::Equal, length(), bits(32, 17)),
+    }
+}
+
+fn is_cyclic(form: Form) -> bool
+    ensures { result ≡ spec.is_cyclic form }
+{
+    match form {
+        Form::Cyclic => true,
+        Form::Free => false,
+        Form::Sum => false,
+        Form::Never => false,
+        Form::Product => false,
+        Form::Heavy => false,
+        Form::Soft => false,
+        Form::Overruled => false,
+        Form::Sized => false,
+        Form::NoSize => false,
+        Form::Large => false,
+    }
+}
+
+fn is_sized(form: Form) -> bool
+    ensures { result ≡ spec.is_sized form }
+{
+    match form {
+        Form::Sized => true,
+        Form::NoSize => true,
+        Form::Large => true,
+        Form::Free => false,
+        Form::Sum => false,
+        Form::Never => false,
+        Form::Product => false,
+        Form::Heavy => false,
+        Form::Soft => false,
+        Form::Overruled => false,
+        Form::Cyclic => false,
     }
 }
 
@@ -128,15 +223,17 @@ fn zeros(alloc: Global, count: usize) -> Result<Items<u64>, NoMemory>
 }
 
 fn state(alloc: Global) -> Result<Assign, NoMemory>
-    ensures { IfOk result (λ state. state ≡ (spec.frame_for form.Free).state) }
+    ensures { IfOk result (λ state. state ≡ spec.first_state) }
 {
     let mut values = Items::<Items<u64>>::new(alloc);
     values.push(Items::from_slice(alloc, &[0])?)?;
     values.push(Items::from_slice(alloc, &[0])?)?;
     values.push(zeros(alloc, 200)?)?;
+    values.push(Items::from_slice(alloc, &[0])?)?;
+    values.push(Items::<u64>::new(alloc))?;
     Ok(Assign {
         values,
-        sizes: Items::from_slice(alloc, &[1, 1, 200])?,
+        sizes: Items::from_slice(alloc, &[1, 1, 200, 1, 0])?,
         script: Items::<u64>::new(alloc),
     })
 }
@@ -148,9 +245,9 @@ fn framed(alloc: Global, form: Form) -> Result<Frame, NoMemory>
         class: class(alloc)?,
         enums: Items::<EnumType>::new(alloc),
         state: state(alloc)?,
-        random: Items::from_slice(alloc, &[true, true, false])?,
-        free_size: Items::from_slice(alloc, &[false, false, false])?,
-        items: alone(alloc, item(alloc, form)?)?,
+        random: Items::from_slice(alloc, &[true, true, false, is_cyclic(form), is_sized(form)])?,
+        free_size: Items::from_slice(alloc, &[false, false, false, false, is_sized(form)])?,
+        items: items(alloc, form)?,
     })
 }
 

@@ -1,4 +1,4 @@
--- The closed expressions of all hard items, domains among them, and of all live soft items of the last phase are ready.
+-- The closed expressions of the domain items, of the hard ones among the active items and of the live soft ones are ready in each phase; in the last one those are all its items.
 use Rattle.std.proofs.Common.{◌≡◌, ◌<◌, ◌≤◌, ◌==◌, ◌^◌, ℕ, zero, suc, ◌+◌, Bool, true, false, not, ◌&&◌, refl, sym, ◌∙◌, ap, subst, List, [], ◌∷◌, ◌++◌, map, length, Option, None, Some, arith}
 use Rattle.std.specs.Prelude.{⊤, filter, slice_index, slice_index_or, if◌then◌else◌}
 use Rattle.std.specs.List.{list_any, flat_map, range_with_len, All}
@@ -13,13 +13,14 @@ use Rattle.svr_typed.specs.declared.class.EnumMember.{EnumMember}
 use Rattle.svr_typed.specs.ExprTerm.{ExprTerm, typed, NodeTerm, number, prop, element, inside, one, RangeTerms, ranges_of}
 use Rattle.svr_eval.specs.Reading.{Reading}
 use Rattle.svr_eval.specs.Typed.{IsTyped, NodeIsTyped, RangesAreTyped, CanRead, NodeCanRead, RangesCanRead}
-use Rattle.svr_frame.specs.declared.part.Part.TheVariants.{All as Whole}
+use Rattle.svr_frame.specs.declared.part.Part.{Part}
+use Rattle.svr_frame.specs.declared.part.Part.TheVariants.{Randc, Sizes, All as Whole}
 use Rattle.svr_frame.specs.declared.slot.Slot.{Slot}
 use Rattle.svr_frame.specs.declared.slot.Slot.TheVariants.{Scalar, Element, Size}
-use Rattle.svr_frame.specs.Frame.{FrameTerm, is_scalar_kind, is_randc, is_scalar, is_array, is_random, is_cyclic, width_of, is_signed, members_of_enum, members_of_kind, members_of, props_of, state_at}
+use Rattle.svr_frame.specs.Frame.{FrameTerm, is_scalar_kind, is_randc, is_scalar, is_array, is_random, is_cyclic, has_free_size, width_of, is_signed, members_of_enum, members_of_kind, members_of, props_of, state_at}
 use Rattle.svr_frame.specs.Closed.{index_number}
 use Rattle.svr_frame.specs.Occurrences.{Occurrence, is_hard}
-use Rattle.svr_frame.specs.Phases.{cyclic_slots, scalar_slots, element_slots, is_random_array, unknowns_of, number_of, fact_item, among_members, domain_item, domain_items, belongs, active_at, asked_of, hard_of, is_soft_of, removes, live, live_of}
+use Rattle.svr_frame.specs.Phases.{cyclic_slots, size_slots, scalar_slots, element_slots, is_random_array, unknowns_of, number_of, fact_item, among_members, domain_item, domain_items, belongs, active_at, asked_of, hard_of, is_soft_of, removes, live, live_of}
 use Rattle.svr_frame.specs.Satisfaction.{IsAssignment}
 use Rattle.svr_frame.specs.Sound.{IsEnum, IsProp, IsOfEnum, NodeIsIn, RangesAreIn, IsSound, SizesFit}
 use Rattle.svr_frame_laws.proofs.Answers.{any_prop, found}
@@ -76,12 +77,12 @@ not_false : (b : Bool) → not b ≡ false → b ≡ true
 not_false true h = refl
 not_false false h = cc
 
-module _ (f : FrameTerm) (ns : List ℕ) (sound : IsSound f) (fit : SizesFit f ns) (fixed : List (ℕ × ℕ)) (a : Reading) (is : IsAssignment f Whole ns fixed a) where
+module _ (f : FrameTerm) (part : Part) (ns : List ℕ) (sound : IsSound f) (fit : SizesFit f ns) (fixed : List (ℕ × ℕ)) (a : Reading) (is : IsAssignment f part ns fixed a) where
   abbrev st : Reading
   st = state_at f ns
 
   below : (p i : ℕ) → a.element p i < 2 ^ width_of f p
-  below = number_fits f a ns sound fit Whole fixed is
+  below = number_fits f a ns sound fit part fixed is
 
   wide : (p : ℕ) → p < length f.class.props → (1 ≤ width_of f p) × (width_of f p ≤ 64)
   wide p lt = let w = width_at f.class.props p lt in let x = sound.props p any_prop lt in let low = x.wide.0 in let high = x.wide.1 in (omega (arith, w, low), omega (arith, w, high))
@@ -192,12 +193,22 @@ module _ (f : FrameTerm) (ns : List ℕ) (sound : IsSound f) (fit : SizesFit f n
           (proper_append (row p) (flat_map row (filter (is_random_array f) ps)) (proper_row p 0 (slice_index ns p) (omega (arith, there, sound.random)) two.1 (omega (arith, fit.most p))) rest))
       by_test false e rest = subst (λ (c : Bool). AllProper (flat_map row (if c then p ∷ filter (is_random_array f) ps else filter (is_random_array f) ps))) (sym e) rest
 
-  unknowns_proper : AllProper (unknowns_of f Whole ns)
-  unknowns_proper =
-      proper_append (cyclic_slots f ++ scalar_slots f) (element_slots f ns)
-      (proper_append (cyclic_slots f) (scalar_slots f) (proper_scalars (is_cyclic f) cyclic_proper (props_of f))
-      (proper_scalars (λ p. is_random f p && not (is_array f p) && not (is_cyclic f p)) scalar_proper (props_of f)))
-      (proper_elements (props_of f))
+  all_sizes : (ps : List ℕ) → AllProper (map Size ps)
+  all_sizes [] = tt
+  all_sizes (p ∷ ps) = (tt, all_sizes ps)
+
+  cyclic_are : AllProper (cyclic_slots f)
+  cyclic_are = proper_scalars (is_cyclic f) cyclic_proper (props_of f)
+
+  scalars_are : AllProper (scalar_slots f)
+  scalars_are = proper_scalars (λ p. is_random f p && not (is_array f p) && not (is_cyclic f p)) scalar_proper (props_of f)
+
+  unknowns_proper : (p : Part) → AllProper (unknowns_of f p ns)
+  unknowns_proper Randc = cyclic_are
+  unknowns_proper Sizes =
+      proper_append (cyclic_slots f ++ size_slots f) (scalar_slots f) (proper_append (cyclic_slots f) (size_slots f) cyclic_are (all_sizes (filter (has_free_size f) (props_of f)))) scalars_are
+  unknowns_proper Whole =
+      proper_append (cyclic_slots f ++ scalar_slots f) (element_slots f ns) (proper_append (cyclic_slots f) (scalar_slots f) cyclic_are scalars_are) (proper_elements (props_of f))
 
   -- ---- all items
 
@@ -215,21 +226,36 @@ module _ (f : FrameTerm) (ns : List ℕ) (sound : IsSound f) (fit : SizesFit f n
   closed_all (o ∷ os) h = (occurrence_ready f a st o h.0, closed_all os h.1)
 
   all_active : AllAreReady f a (active_at f ns)
-  all_active = active_ready f a ns fit.most sound (items_can_read f a ns sound fit Whole fixed is)
+  all_active = active_ready f a ns fit.most sound (items_can_read f a ns sound fit part fixed is)
 
-  pub hard_ready : AreReady f a st (hard_of f Whole ns)
-  hard_ready =
-      ready_append (domain_items f Whole ns ++ []) (asked_of f Whole ns) (ready_append (domain_items f Whole ns) [] (domains_ready (unknowns_of f Whole ns) unknowns_proper) tt)
-      (closed_all (asked_of f Whole ns) (ready_kept f a (λ o. is_hard o && belongs f Whole ns o) (active_at f ns) all_active))
+  pub domains_are_ready : AreReady f a st (domain_items f part ns)
+  domains_are_ready = domains_ready (unknowns_of f part ns) (unknowns_proper part)
 
-  live_all : (os : List Occurrence) → AllAreReady f a os → AreReady f a st (live f Whole ns os)
+  pub asked_are_ready : AreReady f a st (asked_of f part ns)
+  asked_are_ready = closed_all (asked_of f part ns) (ready_kept f a (λ o. is_hard o && belongs f part ns o) (active_at f ns) all_active)
+
+  live_all : (os : List Occurrence) → AllAreReady f a os → AreReady f a st (live f part ns os)
   live_all [] h = tt
   live_all (o ∷ os) h =
-      ready_append (live f Whole ns os) (if is_soft_of f Whole ns o && not (list_any (λ d. removes f Whole ns d o) os) then o ∷ [] else []) (live_all os h.1) (last (is_soft_of f Whole ns o && not (list_any (λ d. removes f Whole ns d o) os)))
+      ready_append (live f part ns os) (if is_soft_of f part ns o && not (list_any (λ d. removes f part ns d o) os) then o ∷ [] else []) (live_all os h.1) (last (is_soft_of f part ns o && not (list_any (λ d. removes f part ns d o) os)))
     where
       last : (b : Bool) → AreReady f a st (if b then o ∷ [] else [])
       last true = (occurrence_ready f a st o h.0, tt)
       last false = tt
 
-  pub live_ready : AreReady f a st (live_of f Whole ns)
-  live_ready = live_all (active_at f ns) all_active
+  pub live_are_ready : AreReady f a st (live_of f part ns)
+  live_are_ready = live_all (active_at f ns) all_active
+
+  pub both_ready : (os ps : List Occurrence) → AreReady f a st os → AreReady f a st ps → AreReady f a st (os ++ ps)
+  both_ready os ps h k = ready_append os ps h k
+
+-- ---- the last phase
+
+module _ (f : FrameTerm) (ns : List ℕ) (sound : IsSound f) (fit : SizesFit f ns) (fixed : List (ℕ × ℕ)) (a : Reading) (is : IsAssignment f Whole ns fixed a) where
+  pub hard_ready : AreReady f a (state_at f ns) (hard_of f Whole ns)
+  hard_ready =
+      both_ready f Whole ns sound fit fixed a is (domain_items f Whole ns ++ []) (asked_of f Whole ns)
+      (both_ready f Whole ns sound fit fixed a is (domain_items f Whole ns) [] (domains_are_ready f Whole ns sound fit fixed a is) tt) (asked_are_ready f Whole ns sound fit fixed a is)
+
+  pub live_ready : AreReady f a (state_at f ns) (live_of f Whole ns)
+  live_ready = live_are_ready f Whole ns sound fit fixed a is

@@ -1,11 +1,10 @@
 -- Runs so far, as they go on by one statement, by statements in a row, and up to a limit or a fault.
-use Rattle.std.proofs.Common.{◌≡◌, ◌≤◌, ◌<◌, ◌+◌, ◌^◌, ◌⊎◌, ◌↔◌, inl, inr, ℕ, zero, suc, Bool, true, false, cond, IsTrue, refl, sym, ◌∙◌, ap, subst, List, [], ◌∷◌, ◌++◌, length, append-nil, append_assoc, length-append, arith}
+use Rattle.std.proofs.Common.{◌≡◌, ◌≤◌, ◌<◌, ◌+◌, ◌^◌, ◌⊎◌, inl, inr, ℕ, zero, suc, Bool, true, false, cond, refl, sym, ◌∙◌, ap, subst, List, [], ◌∷◌, ◌++◌, length, append-nil, append_assoc, length-append, arith}
 use Rattle.std.specs.List.{count_by}
 use Rattle.svr_typed.specs.StmtTerm.{CallTerm, StmtTerm, call, DesignTerm}
 use Rattle.svr_phase.specs.declared.options.Options.{Options}
 use Rattle.svr_world.specs.World.{WorldTerm}
 use Rattle.svr_frame.specs.Frame.{FrameTerm}
-use Rattle.svr_hard.specs.Hard.{IsHard}
 use Rattle.svr_call.specs.declared.outcome.Outcome.{Outcome}
 use Rattle.svr_call.specs.Items.{is_one}
 use Rattle.svr_call.specs.Call.{CallStep}
@@ -19,7 +18,7 @@ use Rattle.svr_run.specs.declared.progress.Counts.{Counts}
 use Rattle.svr_run.specs.declared.progress.Progress.{Progress}
 use Rattle.svr_run.specs.declared.run.End.TheVariants.{Ended, Limit}
 use Rattle.svr_run.specs.declared.stop.Stop.{Stop}
-use Rattle.svr_run.specs.declared.stop.Stop.TheVariants.{NoMemory, WriteFault, NotHard}
+use Rattle.svr_run.specs.declared.stop.Stop.TheVariants.{NoMemory, WriteFault}
 use Rattle.svr_run.specs.CanRun.{CanRun, CanExecute}
 use Rattle.svr_run.specs.Telling.{Sinks, Tells, TellsFront, HasCounts, counted, printing_of}
 use Rattle.svr_run.specs.Events.{IsCause, event_in}
@@ -31,9 +30,6 @@ use Rattle.svr_run.proofs.Written.{tells_nothing, tells_join, front_join, front_
 
 pub both : {A : Type 0} (b : Bool) → b ≡ true → b ≡ false → A
 both b p q = absurd (cc)
-
-pub not_true : (b : Bool) (P : Type 0) → (IsTrue b ↔ P) → b ≡ false → P → ⊥
-not_true b P h e p = both b (h.1 p) e
 
 -- ---- how many calls there can be
 
@@ -138,16 +134,6 @@ module _ (d : DesignTerm) (opts : Options) where
   pub halts_as : (x : StmtTerm) (p : Progress) (now after : Sinks) (why cause : Stop) → why ≡ cause → Halts d opts x p now cause after → Halts d opts x p now why after
   halts_as x p now after why cause e halt = subst (λ (w : Stop). Halts d opts x p now w after) (sym e) halt
 
-  pub halts_at_soft : (c : CallTerm) (p : Progress) (now : Sinks) → p.limited ≡ false → (IsHard (frame_in d p.world c) → ⊥) → Halts d opts (call c) p now NotHard now
-  halts_at_soft c p now going soft = record {
-    halts = λ first rest place. (place.events, state_of p, so_far first (call c ∷ rest) p now place, c, rest, refl, going, soft, place.tells);
-  }
-
-  pub halts_unless_hard : (c : CallTerm) (f : FrameTerm) (b : Bool) (p : Progress) (now : Sinks) → p.limited ≡ false → f ≡ frame_in d p.world c → (IsTrue b ↔ IsHard f) → b ≡ false
-      → Halts d opts (call c) p now NotHard now
-  halts_unless_hard c f b p now going is_frame hard test =
-      halts_at_soft c p now going (λ h. not_true b (IsHard f) hard test (subst (λ (x : FrameTerm). IsHard x) (sym is_frame) h))
-
   -- a call answered, and what it tells was not written whole
   pub halts_behind : (c : CallTerm) (e : Event) (p : Progress) (t : State) (now after : Sinks) (why : Stop) → p.limited ≡ false → Calls d opts c (state_of p) e t
       → TellsFront (printing_of opts) (e ∷ []) now after → IsCause why now after → Halts d opts (call c) p now why after
@@ -168,7 +154,6 @@ module _ (d : DesignTerm) (opts : Options) where
       failed_since (printing_of opts) place.events first now after place.tells cause,
     );
   }
-  halts_behind c e p t now after NotHard going calls front cause = absurd cause
 
   pub call_halts : (c : CallTerm) (f : FrameTerm) (p : Progress) (w : WorldTerm) (o : Outcome) (now after : Sinks) (why : Stop) → p.limited ≡ false → f ≡ frame_in d p.world c → CallStep p.world c.object f (p.calls + 1) opts o w
       → TellsFront (printing_of opts) (event_in d (record p { world = w }) c f o ∷ []) now after → IsCause why now after → Halts d opts (call c) p now why after

@@ -28,9 +28,9 @@ is_plain (call c) = false
 is_plain (repeat n s) = false
 is_plain (list ss) = false
 
--- a budget of some step, and no array beyond the limit
+-- a budget of some step, and a greatest size that some array may have and none may pass
 abbrev pub AreAllowed : Options → Type 0
-AreAllowed opts = (1 ≤ opts.budget) × (opts.size_cap ≤ 2048)
+AreAllowed opts = (1 ≤ opts.budget) × (1 ≤ opts.size_cap) × (opts.size_cap ≤ 2048)
 
 pub record CanRun (d : DesignTerm) (opts : Options) : Type 0 where
   pub stands : (es : List Event) (t : State) (so_far : IsSoFar d opts es t) (x : StmtTerm) (rest : List StmtTerm) → so_far.left ≡ x ∷ rest → t.limited ≡ false → CanExecute d t.world x

@@ -9,7 +9,7 @@ use Rattle.svr_script.specs.Statement.{name_of_var, class_of_var}
 use Rattle.svr_run.specs.declared.progress.Progress.{Progress}
 use Rattle.svr_run.specs.declared.tell.Told.{Told}
 use Rattle.svr_run.specs.declared.stop.Stop.{Stop}
-use Rattle.svr_run.specs.declared.stop.Stop.TheVariants.{NoMemory, WriteFault, NotHard}
+use Rattle.svr_run.specs.declared.stop.Stop.TheVariants.{NoMemory, WriteFault}
 use Rattle.svr_run.specs.Telling.{Sinks, SinkFailed}
 
 -- what a call on an object of a class tells
@@ -24,4 +24,3 @@ event_in d p c f o = record { number = p.calls + 1; object = name_of_var d c.obj
 abbrev pub IsCause : Stop → Sinks → Sinks → Type 0
 IsCause NoMemory old new = ⊤
 IsCause WriteFault old new = SinkFailed old new
-IsCause NotHard old new = ⊥

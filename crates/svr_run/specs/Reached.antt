@@ -2,14 +2,13 @@
 use Rattle.std.specs.Prelude.{◌≡◌, false, true, ◌⊎◌, List, [], ◌∷◌, ◌++◌}
 use Rattle.svr_typed.specs.StmtTerm.{CallTerm, StmtTerm, call, DesignTerm}
 use Rattle.svr_phase.specs.declared.options.Options.{Options}
-use Rattle.svr_hard.specs.Hard.{IsHard}
 use Rattle.svr_script.specs.Printed.{Event}
 use Rattle.svr_script.specs.Statement.{frame_in}
 use Rattle.svr_script.specs.Run.{State, Runs, begin, statements, IsSoFar}
 use Rattle.svr_run.specs.declared.progress.Counts.{Counts}
 use Rattle.svr_run.specs.declared.progress.Progress.{Progress}
 use Rattle.svr_run.specs.declared.stop.Stop.{Stop}
-use Rattle.svr_run.specs.declared.stop.Stop.TheVariants.{NoMemory, WriteFault, NotHard}
+use Rattle.svr_run.specs.declared.stop.Stop.TheVariants.{NoMemory, WriteFault}
 use Rattle.svr_run.specs.Telling.{Sinks, Tells, TellsFront, SinkFailed, HasCounts, printing_of}
 
 abbrev pub state_of : Progress → State
@@ -33,13 +32,10 @@ pub record Comes (d : DesignTerm) (opts : Options) (first : Sinks) (next : List 
   pub place : IsAt d opts first left p now
   pub there : (left ≡ next) ⊎ (p.limited ≡ true)
 
--- A run so far has stopped: a front of what it tells was written; a sink failed; or the next call asks more than hard items, and all was written.
+-- A run so far has stopped: a front of what it tells was written; or a sink failed.
 abbrev pub Stops : DesignTerm → Options → Sinks → Stop → Sinks → Type 0
 Stops d opts first NoMemory now = (es : List Event) × (t : State) × IsSoFar d opts es t × TellsFront (printing_of opts) es first now
 Stops d opts first WriteFault now = (es : List Event) × (t : State) × IsSoFar d opts es t × TellsFront (printing_of opts) es first now × SinkFailed first now
-Stops d opts first NotHard now =
-    (es : List Event) × (t : State) × (so_far : IsSoFar d opts es t) × (c : CallTerm) × (rest : List StmtTerm)
-    × (so_far.left ≡ call c ∷ rest) × (t.limited ≡ false) × (IsHard (frame_in d t.world c) → ⊥) × Tells (printing_of opts) es first now
 
 -- ---- one statement
 

@@ -24,7 +24,6 @@ use svr_edge::Sink;
 use svr_effect::class_of_var;
 use svr_frame::Frame;
 use svr_frame_of::make_frame;
-use svr_hard::is_hard;
 use svr_randomize::randomize;
 use svr_typed::CallStmt;
 
@@ -68,7 +67,7 @@ fn settle<K: Sink, J: Sink>(
     Ok(())
 }
 
-/// The answer of a call in its frame, if that asks hard items alone.
+/// The answer of a call in its frame.
 fn answer<K: Sink, J: Sink>(
     alloc: Global,
     script: &Script<'_>,
@@ -92,9 +91,6 @@ fn answer<K: Sink, J: Sink>(
         (sinks (K.written out.old) (K.faults out.old) (J.written journal.old) (J.faults journal.old)) why
         (sinks (K.written out.new) (K.faults out.new) (J.written journal.new) (J.faults journal.new))) }
 {
-    if !is_hard(frame) {
-        return Err(Stop::NotHard);
-    }
     let number = progress.calls + 1;
     let outcome = randomize(
         alloc,

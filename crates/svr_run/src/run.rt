@@ -113,7 +113,7 @@ fn ran<K: Sink, J: Sink>(
 
 /// Runs a script to its end, or up to a limit: what its calls tell is written to `out` call by call, and the log of each question that was given up to `journal`.
 ///
-/// With `Ended` and `Limit` all of it was written, and no sink failed. A run stops before its end only where an allocation was refused, where the count of faults of a sink rose, or at a call that asks more than hard items; what is written then is a front of what a run so far tells.
+/// With `Ended` and `Limit` all of it was written, and no sink failed. A run stops before its end only where an allocation was refused or where the count of faults of a sink rose; what is written then is a front of what a run so far tells.
 pub fn run_script<K: Sink, J: Sink>(
     alloc: Global,
     design: &Design,

@@ -1,11 +1,10 @@
 // Why a run stops before its end.
 
-/// Why a run stops before its end: an allocation was refused, a sink failed, or the next call asks more than hard items.
+/// Why a run stops before its end: an allocation was refused, or a sink failed.
 #[derive(Clone, Copy, Debug, PartialEq, Eq)]
 pub enum Stop {
     NoMemory,
     WriteFault,
-    NotHard,
 }
 
 impl From<svr_typed::NoMemory> for Stop {

@@ -26,6 +26,7 @@ use Rattle.svr_phase.proofs.Allowed.{has_sizes_fit}
 use Rattle.svr_call.specs.declared.outcome.Dropped.{Dropped}
 use Rattle.svr_call.specs.Call.{numbers_read, random_props, preferred, new_used, Gives, as_preferred, as_solved, IsOne}
 use Rattle.svr_call.proofs.Changes.{passed, replaces_cyclic}
+use Rattle.svr_cyclic.specs.Ends.{UsedFit}
 use Rattle.svr_randomize.proofs.Changes.{numbers_fit}
 use Rattle.svr_run_laws.proofs.Classes.{all_to}
 
@@ -132,8 +133,12 @@ module _ (c : Call) (sound : IsSound c.frame) (le : c.cap ≤ 2048) where
   abbrev f : FrameTerm
   f = c.frame
 
-  alone : (sizes : List ℕ) (fixed : List (ℕ × ℕ)) (a : Reading) → IsAssignment f part.All sizes fixed a → IsAssignment f part.All sizes [] a
-  alone sizes fixed a h = record { fits = h.fits; same_numbers = h.same_numbers; same_sizes = h.same_sizes; same_script = h.same_script; chosen = tt }
+  none_used : UsedFit f.class []
+  none_used = record {
+    props = All-nil (λ (r : Replacement). r.prop < length f.class.props);
+    rising = All-nil (λ (r : Replacement). IsStrictlyIncreasing r.numbers);
+    once = tt;
+  }
 
   -- the numbers are those of an assignment
   abbrev HasNumbers : Change → Type 0
@@ -141,7 +146,7 @@ module _ (c : Call) (sound : IsSound c.frame) (le : c.cap ≤ 2048) where
 
   read_fits : (change : Change) (sizes : List ℕ) (fixed : List (ℕ × ℕ)) (a : Reading) → SizesFit f sizes → IsAssignment f part.All sizes fixed a → change.values ≡ numbers_read sizes a (random_props f) → HasNumbers change
   read_fits change sizes fixed a fit is e =
-      let h = numbers_fit f sizes sound fit a (alone sizes fixed a is) in (
+      let h = numbers_fit f sizes sound fit fixed a is [] none_used in (
         subst (λ (rs : List Replacement). All (FitsPlace f.class.props) rs) (sym e) h.values,
         subst (λ (rs : List Replacement). AreDistinct (fitting.props_of rs)) (sym e) h.values_once,
       )

@@ -16,7 +16,7 @@ use Rattle.svr_frame.specs.declared.slot.Slot.{Slot}
 use Rattle.svr_frame.specs.declared.slot.Slot.TheVariants.{Scalar, Element, Size}
 use Rattle.svr_frame.specs.Frame.{FrameTerm, is_scalar_kind, is_randc, is_scalar, is_random, is_cyclic, width_of, state_at}
 use Rattle.svr_frame.specs.Phases.{unknowns_of}
-use Rattle.svr_frame.specs.Satisfaction.{is_at, AllFit, IsAssignment}
+use Rattle.svr_frame.specs.Satisfaction.{is_at, AllFit, AreFixed, IsAssignment}
 use Rattle.svr_frame.specs.Sound.{IsProp, IsSound, SizesFit}
 use Rattle.svr_frame_laws.proofs.Answers.{scalar_one}
 use Rattle.svr_encoded.proofs.UnknownLemmas.{none_past}
@@ -56,6 +56,25 @@ next_one P items a b h k = either (hold items b) refl
 
 pub still_hold : (items : List ExprTerm) (wanted a : Reading) (s : Slot) → hold items a ≡ true → hold items (step items wanted a s) ≡ true
 still_hold items wanted a s h = next_one (λ r. hold items r ≡ true) items a (with_wanted wanted a s) h (λ e. e)
+
+-- ---- chosen values
+
+-- a number that is fixed in both stays fixed
+number_fixed : (f : FrameTerm) (wanted a : Reading) (p i : ℕ) (chosen : List (ℕ × ℕ)) → AreFixed f wanted chosen → AreFixed f a chosen → AreFixed f (with_number a p i (wanted.element p i)) chosen
+number_fixed f wanted a p i [] h k = tt
+number_fixed f wanted a p i (x ∷ chosen) h k = (by_place ((p == x.0) && (i == 0)) refl, number_fixed f wanted a p i chosen h.1 k.1)
+  where
+    by_place : (b : Bool) → ((p == x.0) && (i == 0)) ≡ b → (if b then wanted.element p i else a.element x.0 0) ≡ x.1
+    by_place true e = let two = and_parts (p == x.0) (i == 0) e in (λ z. wanted.element (eqb-true p x.0 two.0 z) (eqb-true i 0 two.1 z)) ∙ h.0
+    by_place false e = k.0
+
+wanted_fixed : (f : FrameTerm) (wanted a : Reading) (s : Slot) (chosen : List (ℕ × ℕ)) → AreFixed f wanted chosen → AreFixed f a chosen → AreFixed f (with_wanted wanted a s) chosen
+wanted_fixed f wanted a (Scalar p) chosen h k = number_fixed f wanted a p 0 chosen h k
+wanted_fixed f wanted a (Element p i) chosen h k = number_fixed f wanted a p i chosen h k
+wanted_fixed f wanted a (Size p) chosen h k = k
+
+pub step_fixed : (f : FrameTerm) (items : List ExprTerm) (wanted a : Reading) (s : Slot) (chosen : List (ℕ × ℕ)) → AreFixed f wanted chosen → AreFixed f a chosen → AreFixed f (step items wanted a s) chosen
+step_fixed f items wanted a s chosen h k = next_one (λ (r : Reading). AreFixed f r chosen) items a (with_wanted wanted a s) k (λ e. wanted_fixed f wanted a s chosen h k)
 
 -- ---- all steps
 

@@ -1,6 +1,6 @@
 // Each unknown takes its wanted number where it can.
 
-ghost use Rattle.std.specs.Prelude.{◌≡◌, ◌<◌, ℕ, true, [], map, length, slice_index, slice_index_or, IfOk, OnOk};
+ghost use Rattle.std.specs.Prelude.{◌≡◌, ◌<◌, ℕ, true, List, [], map, length, slice_index, slice_index_or, IfOk, OnOk};
 ghost use Rattle.std.specs.List.{All};
 ghost use Rattle.svr_typed.specs.ExprTerm.{expr_term};
 ghost use Rattle.svr_eval.specs.Reading.{Reading, reading_of};
@@ -8,8 +8,9 @@ ghost use Rattle.svr_eval.specs.Typed.{IsTyped, CanRead};
 ghost use Rattle.svr_frame.specs.declared.part.Part.TheVariants.{All as Whole};
 ghost use Rattle.svr_frame.specs.Frame.{frame_term};
 ghost use Rattle.svr_frame.specs.Phases.{unknowns_of};
-ghost use Rattle.svr_frame.specs.Satisfaction.{IsAssignment};
+ghost use Rattle.svr_frame.specs.Satisfaction.{AreFixed, IsAssignment};
 ghost use Rattle.svr_frame.specs.Sound.{IsSound, SizesFit};
+ghost use Rattle.svr_values.specs.Needed.{needed_of};
 ghost use Rattle.svr_settled.specs.Steps.{with_number, with_wanted, hold, step_with, step, steps, IsWithin};
 
 use crate::place::put;
@@ -17,13 +18,14 @@ use std::alloc::Global;
 use svr_eval::Assign;
 use svr_frame::{Frame, Slot};
 use svr_typed::{NoMemory, TExpr};
-use svr_values::all_hold;
+use svr_values::needed_hold;
 
-/// The number at a place is the wanted one where all items hold with it.
+/// The number at a place is the wanted one where the items that are needed hold with it.
 fn try_number(
     alloc: Global,
     a: &mut Assign,
     items: &[TExpr],
+    needed: &[bool],
     wanted: &Assign,
     prop: u32,
     index: u32,
@@ -31,48 +33,50 @@ fn try_number(
     requires within { index < length (slice_index_or a.old.values prop []) }
     requires typed { All (λ e. IsTyped (expr_term e)) items.now }
     requires readable { All (λ e. CanRead (with_number (reading_of a.old) prop index ((reading_of wanted.now).element prop index)) 0 (expr_term e)) items.now }
-    ensures reads { OnOk result (reading_of a.new ≡ step_with (map expr_term items.now) (reading_of a.old) (with_number (reading_of a.old) prop index ((reading_of wanted.now).element prop index))) }
+    ensures reads { OnOk result (reading_of a.new ≡ step_with (needed_of (map expr_term items.now) needed.now) (reading_of a.old) (with_number (reading_of a.old) prop index ((reading_of wanted.now).element prop index))) }
     ensures long { OnOk result ((p : ℕ) → length (slice_index_or a.new.values p []) ≡ length (slice_index_or a.old.values p [])) }
 {
     let place = u64::from(index);
     let number = wanted.element(prop, place);
     let before = a.element(prop, place);
     put(alloc, a, prop, index, number)?;
-    if all_hold(items, a) {
+    if needed_hold(items, needed, a) {
         return Ok(());
     }
     put(alloc, a, prop, index, before)?;
     Ok(())
 }
 
-/// An unknown takes its wanted number where all items hold with it.
+/// An unknown takes its wanted number where the items that are needed hold with it.
 fn settle_slot(
     alloc: Global,
     a: &mut Assign,
     items: &[TExpr],
+    needed: &[bool],
     wanted: &Assign,
     slot: Slot,
 ) -> Result<(), NoMemory>
     requires within { IsWithin a.old slot }
     requires typed { All (λ e. IsTyped (expr_term e)) items.now }
     requires readable { All (λ e. CanRead (with_wanted (reading_of wanted.now) (reading_of a.old) slot) 0 (expr_term e)) items.now }
-    ensures reads { OnOk result (reading_of a.new ≡ step (map expr_term items.now) (reading_of wanted.now) (reading_of a.old) slot) }
+    ensures reads { OnOk result (reading_of a.new ≡ step (needed_of (map expr_term items.now) needed.now) (reading_of wanted.now) (reading_of a.old) slot) }
     ensures long { OnOk result ((p : ℕ) → length (slice_index_or a.new.values p []) ≡ length (slice_index_or a.old.values p [])) }
 {
     match slot {
-        Slot::Scalar(prop) => try_number(alloc, a, items, wanted, prop, 0),
-        Slot::Element(prop, index) => try_number(alloc, a, items, wanted, prop, index),
+        Slot::Scalar(prop) => try_number(alloc, a, items, needed, wanted, prop, 0),
+        Slot::Element(prop, index) => try_number(alloc, a, items, needed, wanted, prop, index),
         Slot::Size(_) => Ok(()),
     }
 }
 
-/// Puts wanted numbers into an assignment of the last phase with which all items hold: each unknown in turn takes its wanted number where all items hold with it. All items hold with the result, which is an assignment of the phase.
+/// Puts wanted numbers into an assignment of the last phase with which the items that are needed hold: each unknown in turn takes its wanted number where these hold with it. They hold with the result, which is an assignment of the phase.
 pub fn settle(
     alloc: Global,
     frame: &Frame,
     sizes: &[u32],
     slots: &[Slot],
     items: &[TExpr],
+    needed: &[bool],
     wanted: &Assign,
     found: Assign,
 ) -> Result<Assign, NoMemory>
@@ -84,14 +88,14 @@ pub fn settle(
     requires wanted { IsAssignment (frame_term frame.now) Whole sizes.now [] (reading_of wanted.now) }
     requires long { (p : ℕ) → length (slice_index_or found.values p []) ≡ slice_index sizes.now p }
     requires fits { IsAssignment (frame_term frame.now) Whole sizes.now [] (reading_of found) }
-    requires meets { hold (map expr_term items.now) (reading_of found) ≡ true }
-    ensures steps { IfOk result (λ a. reading_of a ≡ steps (map expr_term items.now) (reading_of wanted.now) (reading_of found) slots.now) }
-    ensures fits { IfOk result (λ a. IsAssignment (frame_term frame.now) Whole sizes.now [] (reading_of a)) }
-    ensures meets { IfOk result (λ a. hold (map expr_term items.now) (reading_of a) ≡ true) }
+    requires meets { hold (needed_of (map expr_term items.now) needed.now) (reading_of found) ≡ true }
+    ensures steps { IfOk result (λ a. reading_of a ≡ steps (needed_of (map expr_term items.now) needed.now) (reading_of wanted.now) (reading_of found) slots.now) }
+    ensures fits { IfOk result (λ a. (chosen : List (ℕ × ℕ)) → AreFixed (frame_term frame.now) (reading_of wanted.now) chosen → AreFixed (frame_term frame.now) (reading_of found) chosen → IsAssignment (frame_term frame.now) Whole sizes.now chosen (reading_of a)) }
+    ensures meets { IfOk result (λ a. hold (needed_of (map expr_term items.now) needed.now) (reading_of a) ≡ true) }
 {
     let mut a = found;
     for at in 0..slots.len() {
-        settle_slot(alloc, &mut a, items, wanted, slots[at])?;
+        settle_slot(alloc, &mut a, items, needed, wanted, slots[at])?;
     }
     Ok(a)
 }

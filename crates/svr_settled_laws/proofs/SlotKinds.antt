@@ -85,11 +85,14 @@ module _ (f : FrameTerm) (ns : List ℕ) (sound : IsSound f) where
       All-append (IsKind f) (scalar_slots f) (element_slots f ns)
       (scalars_are (λ p. is_random f p && not (is_array f p) && not (is_cyclic f p)) (λ p h. not_array (is_random f p) (is_array f p) (not (is_cyclic f p)) h) (props_of f)) (elements_are (props_of f))
 
+  pub cyclic_kinds : All (IsKind f) (cyclic_slots f)
+  cyclic_kinds =
+      scalars_are (is_cyclic f) (λ p h. ap not (cyclic_scalar f.enums f.class.props p sound.props (and_parts (is_random f p) (slice_index_or (map (λ (x : Prop). is_randc x.rand) f.class.props) p false) h).1)) (props_of f)
+
   pub kinds : All (IsKind f) (unknowns_of f Whole ns)
   kinds =
       All-append (IsKind f) (cyclic_slots f ++ scalar_slots f) (element_slots f ns)
-      (All-append (IsKind f) (cyclic_slots f) (scalar_slots f)
-      (scalars_are (is_cyclic f) (λ p h. ap not (cyclic_scalar f.enums f.class.props p sound.props (and_parts (is_random f p) (slice_index_or (map (λ (x : Prop). is_randc x.rand) f.class.props) p false) h).1)) (props_of f))
+      (All-append (IsKind f) (cyclic_slots f) (scalar_slots f) cyclic_kinds
       (scalars_are (λ p. is_random f p && not (is_array f p) && not (is_cyclic f p)) (λ p h. not_array (is_random f p) (is_array f p) (not (is_cyclic f p)) h) (props_of f))) (elements_are (props_of f))
 
   -- ---- the item of an unknown

@@ -1,5 +1,5 @@
 -- An unknown that no item mentions can take its wanted number whatever the others are, and keeps it.
-use Rattle.std.proofs.Common.{◌≡◌, ◌≤◌, ◌==◌, ◌&&◌, ℕ, Bool, true, false, cond, refl, sym, ap, ◌∙◌, subst, List, [], ◌∷◌, ◌++◌, map, arith, pos, ◌⊎◌, ⊎_elim, inl, inr}
+use Rattle.std.proofs.Common.{◌≡◌, ◌≤◌, ◌==◌, ◌&&◌, ◌||◌, not, ℕ, Bool, true, false, cond, refl, sym, ap, ◌∙◌, subst, List, [], ◌∷◌, ◌++◌, map, arith, pos, ◌⊎◌, ⊎_elim, inl, inr}
 use Rattle.std.specs.Prelude.{⊤, filter, if◌then◌else◌}
 use Rattle.std.specs.List.{list_any, list_all, flat_map, All}
 use Rattle.std.proofs.lemmas.Bool.{eqb-true, eq-eqb, and_parts}
@@ -14,15 +14,19 @@ use Rattle.svr_frame.specs.declared.slot.Slot.TheVariants.{Scalar, Element, Size
 use Rattle.svr_frame.specs.Frame.{FrameTerm, is_array, state_at}
 use Rattle.svr_frame.specs.Occurrences.{Occurrence, is_true, all_true, is_hard, closed_of}
 use Rattle.svr_frame.specs.Reads.{mentions, mentions_element}
-use Rattle.svr_frame.specs.Phases.{unknowns_of, shape_at, sought_sizes, active_at, asked_of, domain_item, domain_items}
-use Rattle.svr_frame.specs.Satisfaction.{is_at, value_at, IsAssignment}
+use Rattle.svr_frame.specs.Phases.{unknowns_of, shape_at, sought_sizes, active_at, asked_of, is_soft_of, removes, live, domain_item, domain_items}
+use Rattle.svr_frame.specs.Satisfaction.{is_at, value_at, IsAssignment, kept_of}
 use Rattle.svr_frame.specs.Sound.{IsSound, SizesFit}
 use Rattle.svr_frame_laws.proofs.Unmentioned.{unmentioned, none_of, not_true}
 use Rattle.svr_frame_laws.proofs.Standing.{OccurrenceIsIn, AllAreIn, reads_are, active_in}
 use Rattle.svr_encoded.specs.Encodes.{holds}
 use Rattle.svr_phase.specs.Spent.{closed_at}
-use Rattle.svr_phase.specs.Ends.{Call, cyclic_props}
-use Rattle.svr_phase.proofs.Refutes.{closed_hold}
+use Rattle.svr_phase.specs.declared.choice.Choice.{Choice}
+use Rattle.svr_phase.specs.Cyclic.{fixed_of}
+use Rattle.svr_phase.specs.Ends.{Call}
+use Rattle.svr_phase.specs.Chosen.{AreCyclicValues}
+use Rattle.svr_phase.proofs.ChosenValues.{with_none_fixed}
+use Rattle.svr_phase.proofs.KeptItems.{both_hold}
 use Rattle.svr_call.specs.Call.{hard_items, soft_items, mentions_unknown, is_unmentioned, preferred, OthersArePreferred}
 use Rattle.svr_settled.specs.Steps.{with_number, with_wanted, hold, step, steps}
 use Rattle.svr_settled.proofs.Stepped.{IsUnknown, in_size, wanted_is, step_is, still_hold}
@@ -47,6 +51,37 @@ kept_in f g (o ∷ os) h = either (g o) (kept_in f g os h.1)
     either true rest = (h.0, rest)
     either false rest = rest
 
+in_append : (f : FrameTerm) (os ps : List Occurrence) → AllAreIn f os → AllAreIn f ps → AllAreIn f (os ++ ps)
+in_append f [] ps h k = k
+in_append f (o ∷ os) ps h k = (h.0, in_append f os ps h.1 k)
+
+live_in : (f : FrameTerm) (ns : List ℕ) (os : List Occurrence) → AllAreIn f os → AllAreIn f (live f Whole ns os)
+live_in f ns [] h = tt
+live_in f ns (o ∷ os) h =
+    in_append f (live f Whole ns os) (if is_soft_of f Whole ns o && not (list_any (λ d. removes f Whole ns d o) os) then o ∷ [] else []) (live_in f ns os h.1)
+    (last (is_soft_of f Whole ns o && not (list_any (λ d. removes f Whole ns d o) os)))
+  where
+    last : (b : Bool) → AllAreIn f (if b then o ∷ [] else [])
+    last true = (h.0, tt)
+    last false = tt
+
+fates_in : (f : FrameTerm) (os : List Occurrence) (fates : List Bool) → AllAreIn f os → AllAreIn f (kept_of os fates)
+fates_in f [] fates h = tt
+fates_in f (o ∷ os) [] h = tt
+fates_in f (o ∷ os) (true ∷ fates) h = (h.0, fates_in f os fates h.1)
+fates_in f (o ∷ os) (false ∷ fates) h = fates_in f os fates h.1
+
+-- where none of a list passes a test, none of those that are kept does
+none_kept : (t : Occurrence → Bool) (os : List Occurrence) (fates : List Bool) → list_any t os ≡ false → list_any t (kept_of os fates) ≡ false
+none_kept t [] fates h = refl
+none_kept t (o ∷ os) [] h = refl
+none_kept t (o ∷ os) (true ∷ fates) h =
+    let two = none_of (t o) (list_any t os) h in
+    let here = two.0 in
+    let rest = none_kept t os fates two.1 in
+    λ k. here k || rest k
+none_kept t (o ∷ os) (false ∷ fates) h = none_kept t os fates (none_of (t o) (list_any t os) h).1
+
 -- ---- numbers
 
 -- a wanted number at another place leaves one that is as wanted
@@ -70,12 +105,16 @@ value_kept wanted a (Size q) s h = h
 number_there : (a : Reading) (p i n : ℕ) → (with_number a p i n).element p i ≡ n
 number_there a p i n = ap (λ b. if b then n else a.element p i) (λ k. eq-eqb p p refl k && eq-eqb i i refl k)
 
-module _ (c : Call) (ns : List ℕ) (sound : IsSound c.frame) (fit : SizesFit c.frame ns) (wanted : Reading) (is_wanted : IsAssignment c.frame Whole ns [] wanted) where
+module _ (c : Call) (ns : List ℕ) (fates : List Bool) (sound : IsSound c.frame) (fit : SizesFit c.frame ns) (wanted : Reading) (is_wanted : IsAssignment c.frame Whole ns [] wanted) where
   abbrev f : FrameTerm
   f = c.frame
 
+  -- the soft items that are kept
+  abbrev kept : List Occurrence
+  kept = kept_of (soft_items c ns) fates
+
   abbrev items : List ExprTerm
-  items = closed_at c.frame ns (hard_items c ns)
+  items = closed_at c.frame ns (hard_items c ns ++ kept)
 
   abbrev IsFree : Slot → Type 0
   IsFree s = is_unmentioned c ns s ≡ true
@@ -146,11 +185,18 @@ module _ (c : Call) (ns : List ℕ) (sound : IsSound c.frame) (fit : SizesFit c.
         let rest = each_same os h.1 two.1 in
         λ k. here k && rest k
 
-    asked_same : IsFree s → all_true b (asked_of f Whole ns) ≡ all_true a (asked_of f Whole ns)
-    asked_same free =
+    -- no hard item mentions it, and no soft one
+    untouched : IsFree s → (list_any (λ o. mentions_unknown c ns o s) (asked_of f Whole ns) ≡ false) × (list_any (λ o. mentions_unknown c ns o s) (soft_items c ns) ≡ false)
+    untouched free =
         let none = not_true (list_any (λ o. mentions_unknown c ns o s) (asked_of f Whole ns ++ soft_items c ns)) free in
-        let two = none_of (list_any (λ o. mentions_unknown c ns o s) (asked_of f Whole ns)) (list_any (λ o. mentions_unknown c ns o s) (soft_items c ns)) (sym (list_any-append (λ o. mentions_unknown c ns o s) (asked_of f Whole ns) (soft_items c ns)) ∙ none) in
-        each_same (asked_of f Whole ns) (kept_in f (λ o. is_hard o && true) (active_at f ns) (active_in f ns sound)) two.0
+        none_of (list_any (λ o. mentions_unknown c ns o s) (asked_of f Whole ns)) (list_any (λ o. mentions_unknown c ns o s) (soft_items c ns)) (sym (list_any-append (λ o. mentions_unknown c ns o s) (asked_of f Whole ns) (soft_items c ns)) ∙ none)
+
+    asked_same : IsFree s → all_true b (asked_of f Whole ns) ≡ all_true a (asked_of f Whole ns)
+    asked_same free = each_same (asked_of f Whole ns) (kept_in f (λ o. is_hard o && true) (active_at f ns) (active_in f ns sound)) (untouched free).0
+
+    kept_same : IsFree s → all_true b kept ≡ all_true a kept
+    kept_same free =
+        each_same kept (fates_in f (soft_items c ns) fates (live_in f ns (active_at f ns) (active_in f ns sound))) (none_kept (λ o. mentions_unknown c ns o s) (soft_items c ns) fates (untouched free).1)
 
     -- ---- the items of the unknowns themselves
 
@@ -214,8 +260,16 @@ module _ (c : Call) (ns : List ℕ) (sound : IsSound c.frame) (fit : SizesFit c.
         let asked = asked_same free ∙ two.1 in
         hard_parts b ∙ (λ k. here k && asked k)
 
-  hold_is : (r : Reading) → IsAssignment c.frame Whole ns [] r → hold items r ≡ all_true r (hard_items c ns)
-  hold_is r is = all_mapped (λ e. holds r e) (closed_of (state_at f ns)) (hard_items c ns) ∙ closed_hold f Whole ns sound fit [] r is
+    -- with the soft items that are kept
+    all_kept : IsFree s → AreFit (unknowns_of f Whole ns) → all_true a (hard_items c ns ++ kept) ≡ true → all_true b (hard_items c ns ++ kept) ≡ true
+    all_kept free good h =
+        let two = and_parts (all_true a (hard_items c ns)) (all_true a kept) (sym (list_all-append (is_true a) (hard_items c ns) kept) ∙ h) in
+        let hard = hard_kept free good two.0 in
+        let soft = kept_same free ∙ two.1 in
+        list_all-append (is_true b) (hard_items c ns) kept ∙ (λ k. hard k && soft k)
+
+  hold_is : (r : Reading) → IsAssignment c.frame Whole ns [] r → hold items r ≡ all_true r (hard_items c ns ++ kept)
+  hold_is r is = all_mapped (λ e. holds r e) (closed_of (state_at f ns)) (hard_items c ns ++ kept) ∙ both_hold f Whole ns sound fit [] r is fates
 
   -- ---- all unknowns in turn
 
@@ -228,8 +282,8 @@ module _ (c : Call) (ns : List ℕ) (sound : IsSound c.frame) (fit : SizesFit c.
     taken a is_a s kind u h free =
         let b = with_wanted wanted a s in
         let is_b = wanted_is c.frame ns sound fit wanted a is_wanted is_a s u in
-        let kept = hard_kept a is_a s kind u free all (sym (hold_is a is_a) ∙ h) in
-        ap (λ x. value_at (if x then with_wanted wanted a s else a) s) (hold_is (with_wanted wanted a s) is_b ∙ kept) ∙ there a s kind
+        let still = all_kept a is_a s kind u free all (sym (hold_is a is_a) ∙ h) in
+        ap (λ x. value_at (if x then with_wanted wanted a s else a) s) (hold_is (with_wanted wanted a s) is_b ∙ still) ∙ there a s kind
 
     keeps : (a : Reading) (t s : Slot) → value_at a s ≡ value_at wanted s → value_at (step items wanted a t) s ≡ value_at wanted s
     keeps a t s h = either (hold items (with_wanted wanted a t))
@@ -270,8 +324,9 @@ module _ (c : Call) (ns : List ℕ) (sound : IsSound c.frame) (fit : SizesFit c.
     are_fit ss (All-tail (IsKind c.frame) s ss k) (All-tail (λ x. IsFree x → all_true wanted (domain_item f x) ≡ true) s ss own) us.1,
   )
 
-  pub others : (found : Reading) → IsAssignment c.frame Whole ns [] found → all_true found (hard_items c ns) ≡ true → All (λ s. is_unmentioned c ns s ≡ true → all_true wanted (domain_item c.frame s) ≡ true) (unknowns_of c.frame Whole ns)
-      → OthersArePreferred c ns wanted (steps (closed_at c.frame ns (hard_items c ns)) wanted found (unknowns_of c.frame Whole ns))
+  pub others : (found : Reading) → IsAssignment c.frame Whole ns [] found → all_true found (hard_items c ns ++ kept_of (soft_items c ns) fates) ≡ true
+      → All (λ s. is_unmentioned c ns s ≡ true → all_true wanted (domain_item c.frame s) ≡ true) (unknowns_of c.frame Whole ns)
+      → OthersArePreferred c ns wanted (steps (closed_at c.frame ns (hard_items c ns ++ kept_of (soft_items c ns) fates)) wanted found (unknowns_of c.frame Whole ns))
   others found is meets own =
       let us = are_unknown (unknowns_of c.frame Whole ns) unknown_at in
       let good = are_fit (unknowns_of c.frame Whole ns) (kinds c.frame ns sound) own us in
@@ -279,17 +334,19 @@ module _ (c : Call) (ns : List ℕ) (sound : IsSound c.frame) (fit : SizesFit c.
 
 -- ---- preferred values
 
-all_wished : (c : Call) (ns : List ℕ) (sound : IsSound c.frame) (fit : SizesFit c.frame ns) → cyclic_props c.frame ≡ [] → (ss : List Slot) → All (IsUnknown c.frame ns sound fit) ss → All (IsKind c.frame) ss
-    → All (λ s. is_unmentioned c ns s ≡ true → all_true (preferred c [] ns) (domain_item c.frame s) ≡ true) ss
-all_wished c ns sound fit none [] u k = All-nil (λ s. is_unmentioned c ns s ≡ true → all_true (preferred c [] ns) (domain_item c.frame s) ≡ true)
-all_wished c ns sound fit none (s ∷ ss) u k =
-    All-cons (λ s. is_unmentioned c ns s ≡ true → all_true (preferred c [] ns) (domain_item c.frame s) ≡ true) s ss
-    (wished c ns sound fit none s (All-head (IsUnknown c.frame ns sound fit) s ss u) (All-head (IsKind c.frame) s ss k))
-    (all_wished c ns sound fit none ss (All-tail (IsUnknown c.frame ns sound fit) s ss u) (All-tail (IsKind c.frame) s ss k))
+module _ (c : Call) (choices : List Choice) (ns : List ℕ) (sound : IsSound c.frame) (fit : SizesFit c.frame ns) (cyclic : AreCyclicValues c.frame (fixed_of choices)) where
+  abbrev IsWished : Slot → Type 0
+  IsWished s = is_unmentioned c ns s ≡ true → all_true (preferred c choices ns) (domain_item c.frame s) ≡ true
 
-pub others_preferred : (c : Call) (ns : List ℕ) → IsSound c.frame → SizesFit c.frame ns → c.cap ≤ 2048 → cyclic_props c.frame ≡ [] → (found : Reading) → IsAssignment c.frame Whole ns [] found → all_true found (hard_items c ns) ≡ true
-    → OthersArePreferred c ns (preferred c [] ns) (steps (closed_at c.frame ns (hard_items c ns)) (preferred c [] ns) found (unknowns_of c.frame Whole ns))
-others_preferred c ns sound fit le none found is meets =
-    let w = wish_is c ns sound fit none le in
-    others c ns sound fit (preferred c [] ns) w found is meets
-    (all_wished c ns sound fit none (unknowns_of c.frame Whole ns) (λ k d lt p i h. list_any_at (is_at p i) (unknowns_of c.frame Whole ns) k d lt h) (kinds c.frame ns sound))
+  all_wished : (ss : List Slot) → All (IsUnknown c.frame ns sound fit) ss → All (IsKind c.frame) ss → All IsWished ss
+  all_wished [] u k = All-nil IsWished
+  all_wished (s ∷ ss) u k =
+      All-cons IsWished s ss (wished c choices ns sound fit cyclic s (All-head (IsUnknown c.frame ns sound fit) s ss u) (All-head (IsKind c.frame) s ss k))
+      (all_wished ss (All-tail (IsUnknown c.frame ns sound fit) s ss u) (All-tail (IsKind c.frame) s ss k))
+
+  pub others_preferred : (fates : List Bool) → c.cap ≤ 2048 → (found : Reading) → IsAssignment c.frame Whole ns (fixed_of choices) found → all_true found (hard_items c ns ++ kept_of (soft_items c ns) fates) ≡ true
+      → OthersArePreferred c ns (preferred c choices ns) (steps (closed_at c.frame ns (hard_items c ns ++ kept_of (soft_items c ns) fates)) (preferred c choices ns) found (unknowns_of c.frame Whole ns))
+  others_preferred fates le found is meets =
+      let free = with_none_fixed c.frame Whole ns (fixed_of choices) in
+      others c ns fates sound fit (preferred c choices ns) (free (preferred c choices ns) (wish_is c choices ns sound fit cyclic le)) found (free found is) meets
+      (all_wished (unknowns_of c.frame Whole ns) (λ k d lt p i h. list_any_at (is_at p i) (unknowns_of c.frame Whole ns) k d lt h) (kinds c.frame ns sound))

@@ -18,21 +18,25 @@ use Rattle.svr_eval.specs.Value.{node_property, property_of, fits, fits_some, tr
 use Rattle.svr_frame.specs.declared.part.Part.TheVariants.{All as Whole}
 use Rattle.svr_frame.specs.declared.slot.Slot.{Slot}
 use Rattle.svr_frame.specs.declared.slot.Slot.TheVariants.{Scalar, Element, Size}
-use Rattle.svr_frame.specs.Frame.{FrameTerm, is_array, width_of, is_signed, members_of, members_of_kind, members_of_enum, state_at}
+use Rattle.svr_frame.specs.Frame.{FrameTerm, is_array, width_of, is_signed, members_of, members_of_kind, members_of_enum, domain_from, domain_of, state_at}
 use Rattle.svr_frame.specs.Closed.{index_number}
 use Rattle.svr_frame.specs.Occurrences.{Occurrence, Shape, dealt, outside, occurrence, occur, all_occur, all_true, is_hard}
 use Rattle.svr_frame.specs.Reads.{of_scalar, of_elements, property_read, dist_reads, mentions}
-use Rattle.svr_frame.specs.Phases.{scalar_slots, element_slots, unknowns_of, shape_at, asked_of, number_of, among_members, domain_item, size_slots}
+use Rattle.svr_frame.specs.Phases.{cyclic_slots, scalar_slots, element_slots, unknowns_of, shape_at, asked_of, number_of, among_members, domain_item, size_slots}
 use Rattle.svr_frame.specs.Satisfaction.{is_at, IsAssignment}
 use Rattle.svr_frame.specs.Sound.{IsEnum, IsOfEnum, IsProp, IsSound, SizesFit}
 use Rattle.svr_frame_laws.proofs.Unmentioned.{none_of, not_true}
-use Rattle.svr_draw.specs.Preferred.{with_words, dists_on, dist_on, item_dists, from_domain, from_dists, preferred_number, number_in}
-use Rattle.svr_draw.proofs.Fits.{preferred_is}
+use Rattle.svr_draw.specs.Preferred.{with_words, dists_on, dist_on, item_dists, from_domain, from_dists, preferred_number, number_in, preferred_of}
+use Rattle.svr_phase.specs.declared.choice.Choice.{Choice}
+use Rattle.svr_phase.specs.Cyclic.{is_among, fixed_of}
 use Rattle.svr_phase.specs.Sizes.{words_after}
 use Rattle.svr_phase.specs.Ends.{Call, cyclic_props}
+use Rattle.svr_phase.specs.Chosen.{AreCyclicValues}
+use Rattle.svr_phase.proofs.Preferred.{same_number_in}
+use Rattle.svr_phase.proofs.ChosenValues.{with_cyclic_is}
 use Rattle.svr_call.specs.Call.{soft_items, is_unmentioned, preferred}
 use Rattle.svr_settled.proofs.Stepped.{IsUnknown, in_size}
-use Rattle.svr_settled_laws.proofs.SlotKinds.{IsKind, drawn_kinds, constant_index}
+use Rattle.svr_settled_laws.proofs.SlotKinds.{IsKind, drawn_kinds, cyclic_kinds, constant_index}
 
 -- ---- members
 
@@ -159,23 +163,78 @@ drawn_at f n (t ∷ ss) g p i other k h = by_test (is_at p i t) refl h (drawn_at
         let r = rest q in
         (r.0, r.1, r.2, r.3, ap (λ b. if b then g (t, n) else number_in (map (λ x. (x.0, g x)) (with_words (suc n) ss)) p i other) e ∙ r.4)
 
-module _ (c : Call) (ns : List ℕ) (sound : IsSound c.frame) (fit : SizesFit c.frame ns) (none : cyclic_props c.frame ≡ []) where
+-- ---- chosen values
+
+-- a value of a list is at some place of it
+place_of : (v : ℕ) (vs : List ℕ) → is_among v vs ≡ true → (k : ℕ) × (k < length vs) × (v ≡ slice_index vs k)
+place_of v [] h = absurd (let no : false ≡ true = h in cc)
+place_of v (u ∷ vs) h = by_test (u == v) refl (place_of v vs)
+  where
+    by_test : (b : Bool) → (u == v) ≡ b → (is_among v vs ≡ true → (k : ℕ) × (k < length vs) × (v ≡ slice_index vs k)) → (k : ℕ) × (k < length (u ∷ vs)) × (v ≡ slice_index (u ∷ vs) k)
+    by_test true e rest = (0, omega arith, sym (eqb-true u v e))
+    by_test false e rest = let r = rest (sym (ap (λ b. b || is_among v vs) e) ∙ h) in (suc r.0, omega (arith, r.1), r.2)
+
+-- a scalar among the chosen ones has a value of its domain
+chosen_at : (f : FrameTerm) (fixed : List (ℕ × ℕ)) → All (λ (c : ℕ × ℕ). is_among c.1 (domain_of f c.0) ≡ true) fixed → (p i other : ℕ) → list_any (is_at p i) (map Scalar (map (λ (c : ℕ × ℕ). c.0) fixed)) ≡ true
+    → (v : ℕ) × (is_among v (domain_of f p) ≡ true) × (number_in (map (λ (c : ℕ × ℕ). (Scalar c.0, c.1)) fixed) p i other ≡ v)
+chosen_at f [] all p i other h = absurd (let no : false ≡ true = h in cc)
+chosen_at f (x ∷ fixed) all p i other h = by_test (is_at p i (Scalar x.0)) refl (chosen_at f fixed (All-tail (λ (c : ℕ × ℕ). is_among c.1 (domain_of f c.0) ≡ true) x fixed all) p i other)
+  where
+    by_test : (b : Bool) → is_at p i (Scalar x.0) ≡ b
+        → (list_any (is_at p i) (map Scalar (map (λ (c : ℕ × ℕ). c.0) fixed)) ≡ true → (v : ℕ) × (is_among v (domain_of f p) ≡ true) × (number_in (map (λ (c : ℕ × ℕ). (Scalar c.0, c.1)) fixed) p i other ≡ v))
+        → (v : ℕ) × (is_among v (domain_of f p) ≡ true) × (number_in (map (λ (c : ℕ × ℕ). (Scalar c.0, c.1)) (x ∷ fixed)) p i other ≡ v)
+    by_test true e rest = (
+      x.1,
+      subst (λ (q : ℕ). is_among x.1 (domain_of f q) ≡ true) (eqb-true x.0 p (and_parts (x.0 == p) (i == 0) e).0) (All-head (λ (c : ℕ × ℕ). is_among c.1 (domain_of f c.0) ≡ true) x fixed all),
+      ap (λ b. if b then x.1 else number_in (map (λ (c : ℕ × ℕ). (Scalar c.0, c.1)) fixed) p i other) e,
+    )
+    by_test false e rest =
+        let r = rest (sym (ap (λ b. b || list_any (is_at p i) (map Scalar (map (λ (c : ℕ × ℕ). c.0) fixed))) e) ∙ h) in
+        (r.0, r.1, ap (λ b. if b then x.1 else number_in (map (λ (c : ℕ × ℕ). (Scalar c.0, c.1)) fixed) p i other) e ∙ r.2)
+
+-- an array is not among scalars
+array_apart : (f : FrameTerm) (p i : ℕ) → is_array f p ≡ true → (qs : List ℕ) → All (IsKind f) (map Scalar qs) → list_any (is_at p i) (map Scalar qs) ≡ false
+array_apart f p i arr [] k = refl
+array_apart f p i arr (q ∷ qs) k = by_test (q == p) refl (array_apart f p i arr qs (All-tail (IsKind f) (Scalar q) (map Scalar qs) k))
+  where
+    by_test : (b : Bool) → (q == p) ≡ b → list_any (is_at p i) (map Scalar qs) ≡ false → list_any (is_at p i) (map Scalar (q ∷ qs)) ≡ false
+    by_test true e rest = absurd (let no : false ≡ true = sym (All-head (IsKind f) (Scalar q) (map Scalar qs) k) ∙ ap (is_array f) (eqb-true q p e) ∙ arr in cc)
+    by_test false e rest = ap (λ b. (b && (i == 0)) || list_any (is_at p i) (map Scalar qs)) e ∙ rest
+
+module _ (c : Call) (choices : List Choice) (ns : List ℕ) (sound : IsSound c.frame) (fit : SizesFit c.frame ns) (cyclic : AreCyclicValues c.frame (fixed_of choices)) where
   abbrev f : FrameTerm
   f = c.frame
 
+  abbrev fixed : List (ℕ × ℕ)
+  fixed = fixed_of choices
+
+  abbrev words : ℕ → ℕ
+  words = words_after (length fixed) c.words
+
   abbrev wish : Reading
-  wish = preferred c [] ns
+  wish = preferred c choices ns
+
+  abbrev base : Reading
+  base = preferred_of f Whole ns c.cap words
 
   abbrev value_of : Slot × ℕ → ℕ
-  value_of x = preferred_number c.frame ns c.cap x.0 (words_after 0 c.words x.1)
+  value_of x = preferred_number c.frame ns c.cap x.0 (words x.1)
 
-  all_drawn : unknowns_of f Whole ns ≡ scalar_slots f ++ element_slots f ns
-  all_drawn = ap (λ ps. map Scalar ps ++ scalar_slots f ++ element_slots f ns) none
+  -- what is not cyclic is drawn
+  drawn_any : (t : Slot → Bool) → list_any t (cyclic_slots f) ≡ false → list_any t (unknowns_of f Whole ns) ≡ true → list_any t (scalar_slots f ++ element_slots f ns) ≡ true
+  drawn_any t none h =
+      list_any-append t (scalar_slots f) (element_slots f ns)
+      ∙ ap (λ b. (b || list_any t (scalar_slots f)) || list_any t (element_slots f ns)) (sym none)
+      ∙ ap (λ b. b || list_any t (element_slots f ns)) (sym (list_any-append t (cyclic_slots f) (scalar_slots f)))
+      ∙ sym (list_any-append t (cyclic_slots f ++ scalar_slots f) (element_slots f ns))
+      ∙ h
 
-  found_for : (p i : ℕ) → list_any (is_at p i) (unknowns_of f Whole ns) ≡ true
+  found_for : (p i : ℕ) → list_any (is_at p i) (cyclic_slots f) ≡ false → list_any (is_at p i) (unknowns_of f Whole ns) ≡ true
       → (s : Slot) × (w : ℕ) × IsKind f s × (is_at p i s ≡ true) × (wish.element p i ≡ value_of (s, w))
-  found_for p i h =
-      drawn_at f (length (size_slots f)) (scalar_slots f ++ element_slots f ns) value_of p i ((state_at f ns).element p i) (drawn_kinds f ns sound) (sym (ap (list_any (is_at p i)) all_drawn) ∙ h)
+  found_for p i none h =
+      let r = drawn_at f (length (size_slots f)) (scalar_slots f ++ element_slots f ns) value_of p i ((state_at f ns).element p i) (drawn_kinds f ns sound) (drawn_any (is_at p i) none h) in
+      let apart : list_any (is_at p i) (map Scalar (map (λ (x : ℕ × ℕ). x.0) fixed)) ≡ false = ap (λ (ps : List ℕ). list_any (is_at p i) (map Scalar ps)) cyclic.props ∙ none in
+      (r.0, r.1, r.2, r.3, same_number_in fixed p i (base.element p i) apart ∙ r.4)
 
   -- the number of an unknown without a distribution is from its domain
   from_scalar : (p i word : ℕ) (s : Slot) → is_at p i s ≡ true → dists_on p f.items ≡ [] → preferred_number f ns c.cap s word ≡ from_domain f p (members_of f p) word
@@ -204,20 +263,34 @@ module _ (c : Call) (ns : List ℕ) (sound : IsSound c.frame) (fit : SizesFit c.
       ap (λ b. is_set (truth 1 false b) && true)
       (member_found f a p (element_at a p (index_read a [] (index_number i))) vs (word % length vs) (mod-lt word (omega (arith, some))) (ap (element_at a p) (constant_index a i low) ∙ same))
 
+  -- a chosen value is among the members
+  chosen_among : (p v : ℕ) (m : Option (List ℕ)) → members_of f p ≡ m → is_among v (domain_from f (width_of f p) m) ≡ true → wish.element p 0 ≡ v → all_true wish (among_members f p (prop p) m) ≡ true
+  chosen_among p v None is h same = refl
+  chosen_among p v (Some vs) is h same =
+      let r = place_of v vs h in
+      ap (λ b. is_set (truth 1 false b) && true) (member_found f wish p (wish.element p 0) vs r.0 r.1 (same ∙ r.2))
+
   -- the preferred number of an unknown that no item mentions
   pub wished : (s : Slot) → IsUnknown f ns sound fit s → IsKind f s → is_unmentioned c ns s ≡ true → all_true wish (domain_item f s) ≡ true
-  wished (Scalar p) u k free =
-      let r = found_for p 0 (u p 0 (λ x. eq-eqb p p refl x && true)) in
-      let unasked = not_true (list_any (λ o. mentions (shape_at f ns) p o) (asked_of f Whole ns ++ soft_items c ns)) free in
-      let two = none_of (list_any (λ o. mentions (shape_at f ns) p o) (asked_of f Whole ns)) (list_any (λ o. mentions (shape_at f ns) p o) (soft_items c ns)) (sym (list_any-append (λ o. mentions (shape_at f ns) p o) (asked_of f Whole ns) (soft_items c ns)) ∙ unasked) in
-      let no = no_dists (shape_at f ns) p f.items two.0 in
-      scalar_among wish p (words_after 0 c.words r.1) (members_of f p) refl (r.4 ∙ from_scalar p 0 (words_after 0 c.words r.1) r.0 r.3 no)
+  wished (Scalar p) u k free = by_choice (list_any (is_at p 0) (cyclic_slots f)) refl
+    where
+      by_choice : (b : Bool) → list_any (is_at p 0) (cyclic_slots f) ≡ b → all_true wish (domain_item f (Scalar p)) ≡ true
+      by_choice true e =
+          let among : list_any (is_at p 0) (map Scalar (map (λ (x : ℕ × ℕ). x.0) fixed)) ≡ true = ap (λ (ps : List ℕ). list_any (is_at p 0) (map Scalar ps)) cyclic.props ∙ e in
+          let r = chosen_at f fixed cyclic.members p 0 (base.element p 0) among in
+          chosen_among p r.0 (members_of f p) refl r.1 r.2
+      by_choice false e =
+          let r = found_for p 0 e (u p 0 (λ x. eq-eqb p p refl x && true)) in
+          let unasked = not_true (list_any (λ o. mentions (shape_at f ns) p o) (asked_of f Whole ns ++ soft_items c ns)) free in
+          let two = none_of (list_any (λ o. mentions (shape_at f ns) p o) (asked_of f Whole ns)) (list_any (λ o. mentions (shape_at f ns) p o) (soft_items c ns)) (sym (list_any-append (λ o. mentions (shape_at f ns) p o) (asked_of f Whole ns) (soft_items c ns)) ∙ unasked) in
+          let no = no_dists (shape_at f ns) p f.items two.0 in
+          scalar_among wish p (words r.1) (members_of f p) refl (r.4 ∙ from_scalar p 0 (words r.1) r.0 r.3 no)
   wished (Element p i) u k free =
       let here = u p i (λ x. eq-eqb p p refl x && eq-eqb i i refl x) in
-      let r = found_for p i here in
+      let r = found_for p i (array_apart f p i k (cyclic_props f) (cyclic_kinds f ns sound)) here in
       let lt = in_size f ns sound fit p i here in
-      element_among wish p i (words_after 0 c.words r.1) (omega (arith, lt, fit.most p)) (members_of f p) refl (r.4 ∙ from_element p i (words_after 0 c.words r.1) r.0 r.3 r.2 k)
+      element_among wish p i (words r.1) (omega (arith, lt, fit.most p)) (members_of f p) refl (r.4 ∙ from_element p i (words r.1) r.0 r.3 r.2 k)
   wished (Size p) u k free = refl
 
-  pub wish_is : c.cap ≤ 2048 → IsAssignment c.frame Whole ns [] (preferred c [] ns)
-  wish_is le = preferred_is c.frame ns sound fit c.cap le (words_after 0 c.words) Whole
+  pub wish_is : c.cap ≤ 2048 → IsAssignment c.frame Whole ns (fixed_of choices) (preferred c choices ns)
+  wish_is le = with_cyclic_is c.frame ns sound fit c.cap le c.words (fixed_of choices) cyclic

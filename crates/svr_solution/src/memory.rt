@@ -1,8 +1,16 @@
 // Want of memory.
 
+use std::alloc::AllocError;
+
 /// An allocation was refused.
 #[derive(Clone, Copy, Debug, PartialEq, Eq)]
 pub struct NoMemory;
+
+impl From<AllocError> for NoMemory {
+    fn from(_error: AllocError) -> NoMemory {
+        NoMemory
+    }
+}
 
 impl From<svr_typed::NoMemory> for NoMemory {
     fn from(_error: svr_typed::NoMemory) -> NoMemory {

@@ -1,2 +1,4 @@
 pub mod Holding
+pub mod Marked
 pub mod Lists
+pub mod FirstNumbers

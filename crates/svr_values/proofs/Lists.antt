@@ -1,15 +1,11 @@
--- Lists of numbers that grow at the end, and preferred values where no property is cyclic.
-use Rattle.std.proofs.Common.{◌≡◌, ℕ, zero, suc, ◌+◌, Bool, true, false, cond, List, [], ◌∷◌, ◌++◌, map, length, refl, sym, ap, ◌∙◌, arith}
+-- Lists of numbers that grow at the end.
+use Rattle.std.proofs.Common.{◌≡◌, ℕ, zero, suc, ◌+◌, Bool, true, false, cond, List, [], ◌∷◌, ◌++◌, map, refl, sym, ap, ◌∙◌, arith}
 use Rattle.std.specs.Prelude.{filter, slice_index}
 use Rattle.std.specs.List.{range_with_len}
 use Rattle.std.proofs.lemmas.List.Elements.{filter-append}
 use Rattle.std.proofs.lemmas.List.FromFn.{map-range_with_len_more}
 use Rattle.svr_eval.specs.Reading.{Reading}
 use Rattle.svr_world.specs.declared.change.Replacement.{Replacement}
-use Rattle.svr_frame.specs.declared.part.Part.{Part}
-use Rattle.svr_frame.specs.Frame.{FrameTerm}
-use Rattle.svr_draw.specs.Preferred.{preferred_of}
-use Rattle.svr_phase.specs.Sizes.{preferred_with}
 use Rattle.svr_call.specs.Call.{numbers_read}
 
 range_suc : (a n : ℕ) → range_with_len a (suc n) ≡ range_with_len a n ++ (a + n) ∷ []
@@ -55,13 +51,6 @@ numbers_left sizes a t n h =
     append_none : (rs : List Replacement) → rs ++ [] ≡ rs
     append_none [] = refl
     append_none (r ∷ rs) = ap (λ (xs : List Replacement). r ∷ xs) (append_none rs)
-
--- where no cyclic value is chosen, the words begin with the first
-pub with_none : (f : FrameTerm) (part : Part) (sizes : List ℕ) (cap : ℕ) (words : ℕ → ℕ) → preferred_with f part sizes cap words [] ≡ preferred_of f part sizes cap words
-with_none f part sizes cap words = λ i. preferred_of f part sizes cap (λ k. words (same k i))
-  where
-    same : (k : ℕ) → 0 + k ≡ k
-    same k = omega arith
 
 -- as far as a loop over the properties has come
 pub rows_taken : (sizes : List ℕ) (a : Reading) (t : ℕ → Bool) (n : ℕ) (old new : List Replacement) → t n ≡ true → old ≡ numbers_read sizes a (filter t (range_with_len 0 n))

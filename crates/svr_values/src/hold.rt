@@ -11,7 +11,7 @@ use svr_eval::{Assign, Env, value};
 use svr_typed::TExpr;
 
 /// Whether a closed expression has a value that is not 0.
-fn holds(item: &TExpr, a: &Assign) -> bool
+pub(crate) fn holds(item: &TExpr, a: &Assign) -> bool
     requires typed { IsTyped (expr_term item.now) }
     requires reads { CanRead (reading_of a.now) 0 (expr_term item.now) }
     ensures { result ≡ is_set (alone (reading_of a.now) [] (expr_term item.now)) }

@@ -6,8 +6,8 @@ use Rattle.svr_script.specs.Ending as ending
 use Rattle.svr_script.specs.Ending.{Output}
 use Rattle.svr_run.specs.Telling.{Sinks}
 use Rattle.svrand.specs.Words.{IsCommand}
-use Rattle.svrand.specs.Answer.{Ends, StopsUnanswered}
-use Rattle.svrand.specs.Outcome.{Refuses, too_long, refused, not_answered, Writes, IsAnswerable, IsAnswered, RunsAreComplete}
+use Rattle.svrand.specs.Answer.{Ends}
+use Rattle.svrand.specs.Outcome.{Refuses, too_long, refused, Writes, IsAnswerable, IsAnswered, RunsAreComplete}
 use Rattle.svrand.specs.declared.status.Status.{Status}
 use Rattle.svrand.specs.declared.status.Status.TheVariants.{AllOne, SomeZero, Usage, SomeGivenUp, Refused, Limited, ReadFault, WriteFault, NoMemory}
 
@@ -15,10 +15,9 @@ same_options : (words : List (List ℕ)) (a b : Options) → IsCommand words a �
 same_options words a b h k = h.options ∙ sym k.options
 
 module _ (words : List (List ℕ)) (text : List ℕ) (able : IsAnswerable words text) where
-  never_refused : (opts : Options) (output : Output) → IsCommand words opts → Refuses opts text output → ⊥
-  never_refused opts output asked (too_long long is) = let small = able.small in absurd (omega arith)
-  never_refused opts output asked (refused line small why is) = able.accepted line why
-  never_refused opts output asked (not_answered small stops) = able.answered output (subst (λ (o : Options). StopsUnanswered o text output) (same_options words opts able.opts asked able.asked) stops)
+  never_refused : (output : Output) → Refuses text output → ⊥
+  never_refused output (too_long long is) = let small = able.small in absurd (omega arith)
+  never_refused output (refused line small why is) = able.accepted line why
 
   never_limited : (opts : Options) (output : Output) → IsCommand words opts → Ends opts text ending.Limited output → ⊥
   never_limited opts output asked ends = able.unlimited output (subst (λ (o : Options). Ends o text ending.Limited output) (same_options words opts able.opts asked able.asked) ends)
@@ -37,7 +36,7 @@ module _ (words : List (List ℕ)) (text : List ℕ) (able : IsAnswerable words 
   is_answered Usage old new (output, inl (e, none, is), out, journal) read write = absurd (none able.opts able.asked)
   is_answered Usage old new (output, inr (opts, asked, none), out, journal) read write = absurd none
   is_answered Refused old new (output, inl (e, none, is), out, journal) read write = absurd (refused_no_usage e)
-  is_answered Refused old new (output, inr (opts, asked, refuses), out, journal) read write = absurd (never_refused opts output asked refuses)
+  is_answered Refused old new (output, inr (opts, asked, refuses), out, journal) read write = absurd (never_refused output refuses)
   is_answered Limited old new (output, inl (e, none, is), out, journal) read write = absurd (limited_no_usage e)
   is_answered Limited old new (output, inr (opts, asked, answers), out, journal) read write = absurd (never_limited opts output asked answers.1)
   is_answered ReadFault old new writes read write = absurd (read refl)

@@ -1,30 +1,23 @@
 -- What a run of a design answers.
-use Rattle.std.proofs.Common.{◌≡◌, ◌≤◌, ◌<◌, ◌⊎◌, ℕ, List, ◌++◌, length, Option, refl, sym, ◌∙◌, subst, inl, inr, arith}
-use Rattle.std.specs.Io.KnownBytes.{Appends, Keeps}
-use Rattle.std.proofs.KnownBytes.{Appends-trans}
-use Rattle.svr_edge.specs.Known.{AppendsFront}
-use Rattle.svr_edge.specs.Causes.{Rose}
+use Rattle.std.proofs.Common.{◌≡◌, ◌≤◌, ◌<◌, ℕ, List, length, refl, sym, ◌∙◌, subst, inr, arith}
 use Rattle.svr_limits.specs.declared.limit.TheConstants.{TEXT_LIMIT}
-use Rattle.svr_refusal.specs.declared.refusal.Refusal.TheVariants as refusal
 use Rattle.svr_typed.specs.StmtTerm.{DesignTerm}
 use Rattle.svr_phase.specs.declared.options.Options.{Options}
 use Rattle.svr_script.specs.Printed.{Event}
-use Rattle.svr_script.specs.Run.{State, IsRun, IsSoFar, text_of, journal_of, counts_of}
+use Rattle.svr_script.specs.Run.{State, IsRun, IsSoFar, counts_of}
 use Rattle.svr_script.specs.Ending as ending
-use Rattle.svr_script.specs.Ending.{Ending, HasEnding, Output, output_of}
+use Rattle.svr_script.specs.Ending.{Ending, HasEnding, output_of}
 use Rattle.svr_run.specs.declared.progress.Counts.{Counts}
 use Rattle.svr_run.specs.declared.run.End.TheVariants as at_end
 use Rattle.svr_run.specs.declared.stop.Stop.TheVariants as stop
 use Rattle.svr_run.specs.Telling.{Sinks, printing_of}
 use Rattle.svr_run.specs.Reached.{Stops}
 use Rattle.svr_run.specs.Ends as run
-use Rattle.svrand.specs.Lines.{refused_at, nowhere}
-use Rattle.svrand.specs.Answer.{HasDesign, Ends, Begins, StopsUnanswered}
-use Rattle.svrand.specs.Outcome.{not_answered, Answers, MayTell, Writing}
+use Rattle.svrand.specs.Answer.{HasDesign, Ends, Begins}
 use Rattle.svrand.specs.Parts.{HasStatus, Answered}
 use Rattle.svrand.specs.declared.status.Status.{Status}
 use Rattle.svrand.specs.declared.status.Status.TheVariants.{AllOne, SomeZero, Usage, SomeGivenUp, Refused, Limited, ReadFault, WriteFault, NoMemory}
-use Rattle.svrand.proofs.Written.{front_of_all, front_behind, front_kept, fault_no_read, memory_no_read, memory_no_write, refused_no_read, refused_no_write}
+use Rattle.svrand.proofs.Written.{fault_no_read, memory_no_read, memory_no_write}
 
 no_less : (m n : ℕ) → n ≡ m → m ≤ n
 no_less m n e = omega arith
@@ -118,68 +111,4 @@ module _ (d : DesignTerm) (opts : Options) (text : List ℕ) (small : length tex
     cause = λ f. failed;
     out_later = tells.out_later;
     journal_later = tells.journal_later;
-  }
-
-  -- ---- at a call that is not answered yet
-
-  -- what its refusal adds to what is printed
-  abbrev with_refusal : List Event → Output
-  with_refusal es = record { printed = text_of (printing_of opts) es ++ refused_at nowhere refusal.NotAnswered; journal = journal_of es }
-
-  unanswered : (old now : Sinks) (stops : Stops d opts old stop.NotHard now) → StopsUnanswered opts text (with_refusal stops.0)
-  unanswered old now (es, t, so_far, c, rest, left, free, more, tells) = record {
-    design = d;
-    read = read;
-    events = es;
-    state = t;
-    so_far = so_far;
-    next = c;
-    later = rest;
-    left = left;
-    goes_on = free;
-    asks_more = more;
-    printed = refl;
-    journal = refl;
-  }
-
-  pub refusal_answers_call : (old now : Sinks) (stops : Stops d opts old stop.NotHard now) (result : Status) (out : Option (List ℕ)) (faults : ℕ)
-      → ((result ≡ Refused) × Appends now.out out (refused_at nowhere refusal.NotAnswered))
-      ⊎ (((result ≡ WriteFault) × AppendsFront now.out out (refused_at nowhere refusal.NotAnswered) × Rose now.out_faults faults)
-      ⊎ ((result ≡ NoMemory) × Keeps now.out out)) → now.out_faults ≤ faults
-      → Answered opts text result old (record { out = out; journal = now.journal; out_faults = faults; journal_faults = now.journal_faults })
-  refusal_answers_call old now (es, t, so_far, c, rest, left, free, more, tells) result out faults (inl (e, all)) later = record {
-    writing = subst (λ s. Writing (Answers opts text) (MayTell opts text) s old (record { out = out; journal = now.journal; out_faults = faults; journal_faults = now.journal_faults })) (sym e) (
-      with_refusal es,
-      not_answered small (unanswered old now (es, t, so_far, c, rest, left, free, more, tells)),
-      Appends-trans old.out now.out out (text_of (printing_of opts) es) (refused_at nowhere refusal.NotAnswered) tells.printed all,
-      tells.logged,
-    );
-    was_read = λ f. refused_no_read (sym e ∙ f);
-    cause = λ f. absurd (refused_no_write (sym e ∙ f));
-    out_later = subst (λ (n : ℕ). n ≤ faults) tells.out_kept later;
-    journal_later = no_less old.journal_faults now.journal_faults tells.journal_kept;
-  }
-  refusal_answers_call old now (es, t, so_far, c, rest, left, free, more, tells) result out faults (inr (inl (e, front, rose))) later = record {
-    writing = subst (λ s. Writing (Answers opts text) (MayTell opts text) s old (record { out = out; journal = now.journal; out_faults = faults; journal_faults = now.journal_faults })) (sym e) (
-      with_refusal es,
-      inl (Refused, not_answered small (unanswered old now (es, t, so_far, c, rest, left, free, more, tells))),
-      front_behind old.out now.out out (text_of (printing_of opts) es) (refused_at nowhere refusal.NotAnswered) tells.printed front,
-      front_of_all old.journal now.journal (journal_of es) tells.logged,
-    );
-    was_read = λ f. fault_no_read (sym e ∙ f);
-    cause = λ f. inl (subst (λ (n : ℕ). Rose n faults) tells.out_kept rose);
-    out_later = subst (λ (n : ℕ). n ≤ faults) tells.out_kept later;
-    journal_later = no_less old.journal_faults now.journal_faults tells.journal_kept;
-  }
-  refusal_answers_call old now (es, t, so_far, c, rest, left, free, more, tells) result out faults (inr (inr (e, kept))) later = record {
-    writing = subst (λ s. Writing (Answers opts text) (MayTell opts text) s old (record { out = out; journal = now.journal; out_faults = faults; journal_faults = now.journal_faults })) (sym e) (inr (
-      output_of (printing_of opts) es,
-      inr (small, begun es t so_far),
-      front_kept old.out now.out out (text_of (printing_of opts) es) tells.printed kept,
-      front_of_all old.journal now.journal (journal_of es) tells.logged,
-    ));
-    was_read = λ f. memory_no_read (sym e ∙ f);
-    cause = λ f. absurd (memory_no_write (sym e ∙ f));
-    out_later = subst (λ (n : ℕ). n ≤ faults) tells.out_kept later;
-    journal_later = no_less old.journal_faults now.journal_faults tells.journal_kept;
   }

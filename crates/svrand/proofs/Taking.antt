@@ -255,7 +255,8 @@ are_taken c m is p = record {
       let t = with_rules (codes "budget") text (took c m p is (codes "budget") text (differ (codes "budget") [] 98 0 refl refl (inr (omega arith))) (differ (codes "budget") (codes "help") 98 104 refl refl (inl (omega arith))) (differ (codes "budget") (codes "version") 98 118 refl refl (inl (omega arith))) told) in
       number_of 1 16777216 text t.value t.how t.read (at_budget (λ q. (i : Bool) × Accepts i q t.value) t.passed) (at_budget (λ q. reading_of q ≡ t.how) t.reads);
   size_cap = λ text told.
-      let t = with_rules (codes "size-cap") text (took c m p is (codes "size-cap") text (differ (codes "size-cap") [] 115 0 refl refl (inr (omega arith))) (differ (codes "size-cap") (codes "help") 115 104 refl refl (inr (omega arith))) (differ (codes "size-cap") (codes "version") 115 118 refl refl (inl (omega arith))) told) in
+      let t = with_rules (codes "size-cap") text (took c m p is (codes "size-cap") text (differ (codes "size-cap") [] 115 0 refl refl (inr (omega arith)))
+      (differ (codes "size-cap") (codes "help") 115 104 refl refl (inr (omega arith))) (differ (codes "size-cap") (codes "version") 115 118 refl refl (inl (omega arith))) told) in
       number_of 1 2048 text t.value t.how t.read (at_size_cap (λ q. (i : Bool) × Accepts i q t.value) t.passed) (at_size_cap (λ q. reading_of q ≡ t.how) t.reads);
   proofs = λ text told.
       let t = with_rules (codes "proofs") text (took c m p is (codes "proofs") text (differ (codes "proofs") [] 112 0 refl refl (inr (omega arith))) (differ (codes "proofs") (codes "help") 112 104 refl refl (inr (omega arith))) (differ (codes "proofs") (codes "version") 112 118 refl refl (inl (omega arith))) told) in

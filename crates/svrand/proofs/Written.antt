@@ -1,10 +1,8 @@
 -- What was written, and what it stands for.
-use Rattle.std.proofs.Common.{◌≡◌, ◌≤◌, ◌<◌, ◌⊎◌, ℕ, ◌+◌, List, ◌++◌, length, take, Option, IfSome, refl, sym, ◌∙◌, subst, inl, inr, arith}
+use Rattle.std.proofs.Common.{◌≡◌, ◌≤◌, ◌<◌, ◌⊎◌, ℕ, ◌+◌, List, length, Option, IfSome, refl, sym, ◌∙◌, subst, inl, inr, arith}
 use Rattle.std.specs.Prelude.{⊤}
 use Rattle.std.specs.Io.KnownBytes.{Appends, Consumes, IsAtEnd, Keeps}
-use Rattle.std.proofs.KnownBytes.{Appends-nil, Appends-trans, Appends-kept, Keeps-refl}
-use Rattle.std.proofs.Math.Seq.{take-append-add}
-use Rattle.std.proofs.lemmas.List.{take_all}
+use Rattle.std.proofs.KnownBytes.{Appends-nil, Keeps-refl}
 use Rattle.svr_edge.specs.Known.{AppendsFront, Takes}
 use Rattle.svr_edge.specs.Causes.{Rose}
 use Rattle.svr_limits.specs.declared.limit.TheConstants.{TEXT_LIMIT}
@@ -20,17 +18,6 @@ use Rattle.svrand.specs.Parts.{Answered}
 use Rattle.svrand.proofs.Told.{if_told, read_all, read_some}
 use Rattle.svrand.specs.declared.status.Status.{Status}
 use Rattle.svrand.specs.declared.status.Status.TheVariants.{AllOne, SomeZero, Usage, SomeGivenUp, Refused, Limited, ReadFault, WriteFault, NoMemory}
-
--- ---- fronts
-
-pub front_of_all : (a b : Option (List ℕ)) (text : List ℕ) → Appends a b text → AppendsFront a b text
-front_of_all a b text h = (length text, subst (λ (t : List ℕ). Appends a b t) (sym (take_all (length text) text (omega arith))) h)
-
-pub front_behind : (a b c : Option (List ℕ)) (xs ys : List ℕ) → Appends a b xs → AppendsFront b c ys → AppendsFront a c (xs ++ ys)
-front_behind a b c xs ys h (n, k) = (length xs + n, subst (λ (t : List ℕ). Appends a c t) (sym (take-append-add xs ys n)) (Appends-trans a b c xs (take n ys) h k))
-
-pub front_kept : (a b c : Option (List ℕ)) (text : List ℕ) → Appends a b text → Keeps b c → AppendsFront a c text
-front_kept a b c text h kept = front_of_all a c text (Appends-kept a b c text h kept)
 
 -- ---- statuses
 
@@ -75,7 +62,7 @@ answer_is_said words opts text status old new asked writing =
 
 -- a refusal was printed, or a front of it, or nothing
 pub refusal_is_written : (opts : Options) (text line : List ℕ) (result : Status) (old new journal : Option (List ℕ)) (was now logged : ℕ) (R : Type 0)
-    → Refuses opts text (prints line)
+    → Refuses text (prints line)
     → ((result ≡ Refused) × Appends old new line) ⊎ (((result ≡ WriteFault) × AppendsFront old new line × R) ⊎ ((result ≡ NoMemory) × Keeps old new))
     → Writing (Answers opts text) (MayTell opts text) result (record { out = old; journal = journal; out_faults = was; journal_faults = logged }) (record { out = new; journal = journal; out_faults = now; journal_faults = logged })
 refusal_is_written opts text line result old new journal was now logged R said (inl (e, all)) =

@@ -11,7 +11,7 @@ use Rattle.svr_script.specs.Ending.{Output}
 use Rattle.svr_run.specs.Telling.{Sinks}
 use Rattle.svrand.specs.Words.{IsCommand}
 use Rattle.svrand.specs.Lines.{refused_at, nowhere}
-use Rattle.svrand.specs.Answer.{IsRefused, Ends, Begins, StopsUnanswered}
+use Rattle.svrand.specs.Answer.{IsRefused, Ends, Begins}
 use Rattle.svrand.specs.declared.status.Status.{Status}
 use Rattle.svrand.specs.declared.status.Status.TheVariants.{AllOne, SomeZero, Usage, SomeGivenUp, Refused, Limited, ReadFault, WriteFault, NoMemory}
 
@@ -24,11 +24,10 @@ prints bytes = record { printed = bytes; journal = [] }
 
 -- ---- what is said
 
--- the text is too long, or is refused; or a call of its script is not answered yet
-pub data Refuses (opts : Options) (text : List ℕ) (output : Output) : Type 0 where
-  too_long : TEXT_LIMIT < length text → output ≡ prints (refused_at nowhere refusal.TooLong) → Refuses opts text output
-  refused : (line : List ℕ) → length text ≤ TEXT_LIMIT → IsRefused text line → output ≡ prints line → Refuses opts text output
-  not_answered : length text ≤ TEXT_LIMIT → StopsUnanswered opts text output → Refuses opts text output
+-- the text is too long, or is refused
+pub data Refuses (text : List ℕ) (output : Output) : Type 0 where
+  too_long : TEXT_LIMIT < length text → output ≡ prints (refused_at nowhere refusal.TooLong) → Refuses text output
+  refused : (line : List ℕ) → length text ≤ TEXT_LIMIT → IsRefused text line → output ≡ prints line → Refuses text output
 
 -- a run with these options over this text ends with this status and has this to write
 abbrev pub Answers : Options → List ℕ → Status → Output → Type 0
@@ -36,7 +35,7 @@ Answers opts text AllOne output = (length text ≤ TEXT_LIMIT) × Ends opts text
 Answers opts text SomeZero output = (length text ≤ TEXT_LIMIT) × Ends opts text ending.SomeZero output
 Answers opts text SomeGivenUp output = (length text ≤ TEXT_LIMIT) × Ends opts text ending.SomeGivenUp output
 Answers opts text Limited output = (length text ≤ TEXT_LIMIT) × Ends opts text ending.Limited output
-Answers opts text Refused output = Refuses opts text output
+Answers opts text Refused output = Refuses text output
 Answers opts text Usage output = ⊥
 Answers opts text ReadFault output = ⊥
 Answers opts text WriteFault output = ⊥
@@ -112,13 +111,12 @@ EndsUnread status = (status ≡ Usage) ⊎ ((status ≡ WriteFault) ⊎ (status 
 
 -- ---- which answers a script has
 
--- The words ask for a run, nothing refuses the text, and no run of its script meets a limit or a call that is not answered yet.
+-- The words ask for a run, nothing refuses the text, and no run of its script meets a limit.
 pub record IsAnswerable (words : List (List ℕ)) (text : List ℕ) : Type 0 where
   pub opts : Options
   pub asked : IsCommand words opts
   pub small : length text ≤ TEXT_LIMIT
   pub accepted : (line : List ℕ) → IsRefused text line → ⊥
-  pub answered : (output : Output) → StopsUnanswered opts text output → ⊥
   pub unlimited : (output : Output) → Ends opts text ending.Limited output → ⊥
 
 -- each call was answered or given up, or memory was wanting

@@ -21,6 +21,6 @@ pub record AreTaken (f : Found) : Type 0 where
   pub size_cap : IsNumber f (codes "size-cap") 1 2048
   pub proofs : IsTruth f (codes "proofs")
 
--- a question may take some step, and no array is greater than its limit
+-- a question may take some step, some array may have an element, and none passes the limit of arrays
 abbrev pub AreInRange : Options → Type 0
-AreInRange opts = (1 ≤ opts.budget) × (opts.size_cap ≤ 2048)
+AreInRange opts = (1 ≤ opts.budget) × (1 ≤ opts.size_cap) × (opts.size_cap ≤ 2048)

@@ -8,16 +8,15 @@ ghost use Rattle.svrand.specs.Answer.{HasDesign};
 ghost use Rattle.svrand.specs.Parts.{Answered};
 
 use crate::design::{Reading, read};
-use crate::finish::{finish, refuse};
+use crate::finish::finish;
 use crate::status::{Status, status_of};
 use std::alloc::{AllocError, Global};
 use svr_edge::Sink;
 use svr_phase::Options;
-use svr_refusal::Refusal;
 use svr_run::{End, Stop, run_script};
 use svr_typed::Design;
 
-/// The run of a design. It ends with a refusal where it comes to a call that is not answered yet.
+/// The run of a design.
 fn run_of<K: Sink, J: Sink>(
     alloc: Global,
     opts: Options,
@@ -36,7 +35,6 @@ fn run_of<K: Sink, J: Sink>(
         End::Limit => Status::Limited,
         End::Stopped(Stop::NoMemory) => Status::NoMemory,
         End::Stopped(Stop::WriteFault) => Status::WriteFault,
-        End::Stopped(Stop::NotHard) => refuse(alloc, out, Refusal::NotAnswered),
     }
 }
 
@@ -55,7 +53,11 @@ pub fn answer<K: Sink, J: Sink>(
         (record { out = K.written out.new; journal = J.written journal.new; out_faults = K.faults out.new; journal_faults = J.faults journal.new }) }
 {
     match read(alloc, text) {
-        Ok(Reading::Accepted(design)) => run_of(alloc, opts, &design, out, journal),
+        Ok(Reading::Accepted(design)) => {
+            let status = run_of(alloc, opts, &design, out, journal);
+            drop(design);
+            status
+        }
         Ok(Reading::Refused(line)) => finish(out, &line, Status::Refused),
         Err(AllocError) => Status::NoMemory,
     }

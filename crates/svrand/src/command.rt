@@ -39,12 +39,12 @@ fn flag<'a>(alloc: Global, name: &'a str) -> Arg<'a>
 fn run_command<'a>(alloc: Global) -> Result<Command<'a>, AllocError>
     ensures { IfOk result (λ c. app_of c ≡ spec.run_command) }
 {
-    let seed = option(alloc, "seed", ValueParser::unsigned(0, u64::MAX));
-    let budget = option(alloc, "budget", ValueParser::unsigned(1, 16_777_216));
-    let size_cap = option(alloc, "size-cap", ValueParser::unsigned(1, 2048));
-    let proofs = flag(alloc, "proofs");
-    let command = Command::new(alloc, "run").disable_help_flag(true);
-    command.arg(seed)?.arg(budget)?.arg(size_cap)?.arg(proofs)
+    Command::new(alloc, "run")
+        .disable_help_flag(true)
+        .arg(option(alloc, "seed", ValueParser::unsigned(0, u64::MAX)))?
+        .arg(option(alloc, "budget", ValueParser::unsigned(1, 16_777_216)))?
+        .arg(option(alloc, "size-cap", ValueParser::unsigned(1, 2048)))?
+        .arg(flag(alloc, "proofs"))
 }
 
 /// The number of an option, where it was used.

@@ -57,9 +57,12 @@ pub fn read(alloc: Global, text: &[u8]) -> Result<Reading, AllocError>
         Ok(tokens) => tokens,
         Err(fault) => return Ok(Reading::Refused(lexical(alloc, text, fault)?)),
     };
-    let script = match parse(alloc, text, &tokens) {
-        Ok(script) => script,
-        Err(fault) => return Ok(Reading::Refused(syntactic(alloc, text, &tokens, fault)?)),
-    };
-    elaborated(alloc, text, &tokens, &script)
+    match parse(alloc, text, &tokens) {
+        Ok(script) => {
+            let reading = elaborated(alloc, text, &tokens, &script);
+            drop(script);
+            reading
+        }
+        Err(fault) => Ok(Reading::Refused(syntactic(alloc, text, &tokens, fault)?)),
+    }
 }

@@ -59,14 +59,29 @@ fn says(alloc: Global, asked: &Case<'_>, status: Status, written: &[u8]) -> Resu
     Ok(ended.status == status && ended.out.bytes() == written)
 }
 
-/// A class with these items in it, one object of it, and these statements.
-fn script(alloc: Global, items: &[u8], stmts: &[u8]) -> Result<Vec<u8>, Fail> {
-    let mut text = Vec::from_slice(alloc, b"class P;\n")?;
-    text.extend_from_slice(items)?;
-    text.extend_from_slice(b"\nendclass\nmodule m;\ninitial begin\nP p = new;\n")?;
-    text.extend_from_slice(stmts)?;
-    text.extend_from_slice(b"\nend\nendmodule\n")?;
+/// Parts one behind the other, each so many times.
+fn joined(alloc: Global, parts: &[(&[u8], usize)]) -> Result<Vec<u8>, Fail> {
+    let mut text = Vec::new(alloc);
+    for (part, times) in parts {
+        for _time in 0..*times {
+            text.extend_from_slice(part)?;
+        }
+    }
     Ok(text)
+}
+
+const CLASS: &[u8] = b"class P;\n";
+
+const MODULE: &[u8] = b"\nendclass\nmodule m;\ninitial begin\nP p = new;\n";
+
+const END: &[u8] = b"\nend\nendmodule\n";
+
+/// A class with these items in it, one object of it, and these statements.
+fn script<'a>(alloc: Global, items: &'a [u8], stmts: &'a [u8]) -> Result<Vec<u8>, Fail> {
+    joined(
+        alloc,
+        &[(CLASS, 1), (items, 1), (MODULE, 1), (stmts, 1), (END, 1)],
+    )
 }
 
 const SCRIPT: &[u8] =
@@ -85,79 +100,82 @@ const PLAIN: Case<'static> = Case {
     room: 4000,
 };
 
-// Words that ask for a run.
-const ASKED: [&[&str]; 6] = [
-    &["run"],
-    &["run", "--seed", "0042"],
-    &["run", "--seed=42"],
-    &["run", "--seed", "18446744073709551615"],
-    &["run", "--proofs", "--size-cap", "2048", "--budget", "64"],
-    &["run", "--budget=16777216", "--seed=+7", "--size-cap=1"],
-];
-
-// Words that ask for none.
-const OTHER: [&[&str]; 15] = [
-    &[],
-    &["--seed", "1"],
-    &["load", "10"],
-    &["run", "--seed"],
-    &["run", "--seed", "x"],
-    &["run", "--seed", ""],
-    &["run", "--seed", "18446744073709551616"],
-    &["run", "--seed", "1", "--seed", "2"],
-    &["run", "--budget", "0"],
-    &["run", "--budget", "16777217"],
-    &["run", "--size-cap", "0"],
-    &["run", "--size-cap", "2049"],
-    &["run", "--proofs=true"],
-    &["run", "--help"],
-    &["run", "1"],
+// Words, and what a run with them ends with and prints.
+const WORDS: [(&[&str], Status, &[u8]); 21] = [
+    (&["run"], Status::AllOne, LINES),
+    (&["run", "--seed", "0042"], Status::AllOne, LINES),
+    (&["run", "--seed=42"], Status::AllOne, LINES),
+    (
+        &["run", "--seed", "18446744073709551615"],
+        Status::AllOne,
+        LINES,
+    ),
+    (
+        &["run", "--proofs", "--size-cap", "2048", "--budget", "64"],
+        Status::AllOne,
+        LINES,
+    ),
+    (
+        &["run", "--budget=16777216", "--seed=+7", "--size-cap=1"],
+        Status::AllOne,
+        LINES,
+    ),
+    (&[], Status::Usage, USAGE),
+    (&["--seed", "1"], Status::Usage, USAGE),
+    (&["load", "10"], Status::Usage, USAGE),
+    (&["run", "--seed"], Status::Usage, USAGE),
+    (&["run", "--seed", "x"], Status::Usage, USAGE),
+    (&["run", "--seed", ""], Status::Usage, USAGE),
+    (
+        &["run", "--seed", "18446744073709551616"],
+        Status::Usage,
+        USAGE,
+    ),
+    (&["run", "--seed", "1", "--seed", "2"], Status::Usage, USAGE),
+    (&["run", "--budget", "0"], Status::Usage, USAGE),
+    (&["run", "--budget", "16777217"], Status::Usage, USAGE),
+    (&["run", "--size-cap", "0"], Status::Usage, USAGE),
+    (&["run", "--size-cap", "2049"], Status::Usage, USAGE),
+    (&["run", "--proofs=true"], Status::Usage, USAGE),
+    (&["run", "--help"], Status::Usage, USAGE),
+    (&["run", "1"], Status::Usage, USAGE),
 ];
 
 #[test]
 fn commands(rt: HostRuntime) -> Result<(), Fail> {
-    for (i, words) in ASKED.iter().enumerate() {
+    for (i, (words, status, written)) in WORDS.iter().enumerate() {
         let asked = Case {
             words: *words,
             ..PLAIN
         };
-        assert!(rt;
-            says(rt.alloc(), &asked, Status::AllOne, LINES)?,
-            "asked {i}"
-        );
-    }
-    for (i, words) in OTHER.iter().enumerate() {
-        let asked = Case {
-            words: *words,
-            ..PLAIN
-        };
-        assert!(rt;
-            says(rt.alloc(), &asked, Status::Usage, USAGE)?,
-            "other {i}"
-        );
+        assert!(rt; says(rt.alloc(), &asked, *status, written)?, "words {i}");
     }
     Ok(())
 }
 
+// Which calls of the source and of the sink fail, and how much the sink takes: how the run ends, and what was written.
+const FAULTS: [(&[u64], &[u64], usize, Status, &[u8]); 3] = [
+    (&[2], &[], 4000, Status::ReadFault, b""),
+    (&[], &[2], 4000, Status::WriteFault, b"#1 p 1 a=5\n"),
+    (&[], &[], 15, Status::WriteFault, b"#1 p 1 a=5\n#2 p"),
+];
+
 #[test]
 fn faults(rt: HostRuntime) -> Result<(), Fail> {
-    let read = Case {
-        read_fails: &[2],
-        ..PLAIN
-    };
-    assert!(rt; says(rt.alloc(), &read, Status::ReadFault, b"")?);
-    let second = Case {
-        write_fails: &[2],
-        ..PLAIN
-    };
-    assert!(rt; says(rt.alloc(), &second, Status::WriteFault, b"#1 p 1 a=5\n")?);
-    let short = Case { room: 15, ..PLAIN };
-    assert!(rt; says(rt.alloc(), &short, Status::WriteFault, b"#1 p 1 a=5\n#2 p")?);
+    for (i, (read_fails, write_fails, room, status, written)) in FAULTS.iter().enumerate() {
+        let asked = Case {
+            read_fails: *read_fails,
+            write_fails: *write_fails,
+            room: *room,
+            ..PLAIN
+        };
+        assert!(rt; says(rt.alloc(), &asked, *status, written)?, "fault {i}");
+    }
     Ok(())
 }
 
 // Words, a class with these items, and these statements: how the run ends, and what it prints.
-const RUNS: [(&[&str], &[u8], &[u8], Status, &[u8]); 16] = [
+const RUNS: [(&[&str], &[u8], &[u8], Status, &[u8]); 18] = [
     (
         &["run"],
         b"rand bit [3:0] a = 7; constraint c { a < 3 && a > 5; }",
@@ -236,20 +254,36 @@ const RUNS: [(&[&str], &[u8], &[u8], Status, &[u8]); 16] = [
         Status::SomeGivenUp,
         b"#1 p gaveup hard\n#2 p 1 a=1 b=0 c=1\n",
     ),
-    // What its calls tell, and then a call that is not answered yet.
+    // Soft items: of three the last holds the first; one behind them goes before all; none is left of the variable.
     (
         &["run"],
-        b"rand bit a; constraint c { a == 1; }",
-        b"p.randomize(); p.randomize() with { soft a == 0; }; p.randomize();",
-        Status::Refused,
-        b"#1 p 1 a=1\nrefused 0:0 28\n",
+        b"rand bit [3:0] x; constraint c { soft x == 1; soft x < 4; soft x == 2; }",
+        b"p.randomize(); p.randomize() with { soft x == 5; }; p.randomize() with { disable soft x; x == 7; };",
+        Status::AllOne,
+        b"#1 p 1 x=2 dropped=3\n#2 p 1 x=5 dropped=2 dropped=3 dropped=4\n#3 p 1 x=7\n",
+    ),
+    // A cyclic property: its one value again in a new cycle, then none.
+    (
+        &["run"],
+        b"randc bit [1:0] a; constraint c { a == 0; }",
+        b"repeat (2) p.randomize(); p.randomize() with { a > 3; };",
+        Status::SomeZero,
+        b"#1 p 1 a=0\n#2 p 1 a=0 cycle=a\n#3 p 0 randc\n",
+    ),
+    // Sizes: one that a soft item wants, one at which no elements are left, none, and one beyond the cap.
+    (
+        &["run"],
+        b"rand bit d []; constraint c { d.size() < 5; soft d.size() == 3; foreach (d[k]) d[k] == 1; }",
+        b"p.randomize(); p.randomize() with { d.size() == 2; d[0] == 0; }; p.randomize() with { d.size() < 0; };",
+        Status::SomeZero,
+        b"#1 p 1 d=[1,1,1]\n#2 p 0 hard d.size=2\n#3 p 0 size\n",
     ),
     (
-        &["run"],
-        b"randc bit a;",
-        b"p.randomize();",
-        Status::Refused,
-        b"refused 0:0 28\n",
+        &["run", "--size-cap=1"],
+        b"rand bit d []; constraint c { d.size() == 2; }",
+        b"p.randomize(); p.randomize();",
+        Status::Limited,
+        b"#1 p limit size\n",
     ),
     // Refusals of elaboration: the first in the text is told.
     (
@@ -308,99 +342,56 @@ fn tells(
     )
 }
 
-// The last of 54 calls with seed 42, whose words are those of PCG XSL RR 128/64 in its reference implementation.
-#[test]
-fn seed(rt: HostRuntime) -> Result<(), Fail> {
-    let drawn = script(
-        rt.alloc(),
+const UNEQUAL: &[u8] =
+    b"rand bit a; rand bit b; rand bit c; constraint u { a != b; b != c; a != c; }";
+
+// Words, a class with these items, and these statements: how the run ends, how what it prints begins and ends, and how the journal begins.
+const FRONTS: [(&[&str], &[u8], &[u8], Status, &[u8], &[u8], &[u8]); 3] = [
+    // The last of 54 calls with seed 42, whose words are those of PCG XSL RR 128/64 in its reference implementation.
+    (
+        &["run", "--seed", "42"],
         b"rand bit [7:0] a; rand bit [7:0] b; rand bit [3:0] c;",
         b"repeat (54) p.randomize();",
-    )?;
-    let asked = Case {
-        words: &["run", "--seed", "42"],
-        text: &drawn,
-        ..PLAIN
-    };
-    assert!(rt;
-        tells(
-            rt.alloc(),
-            &asked,
-            Status::AllOne,
-            b"#1 p 1 a=",
-            b"\n#54 p 1 a=104 b=57 c=8\n",
-            b""
-        )?
-    );
-    Ok(())
-}
-
-// A proof, and the log of a question that was given up.
-#[test]
-fn proofs(rt: HostRuntime) -> Result<(), Fail> {
-    let unequal = script(
-        rt.alloc(),
-        b"rand bit a; rand bit b; rand bit c; constraint u { a != b; b != c; a != c; }",
+        Status::AllOne,
+        b"#1 p 1 a=",
+        b"\n#54 p 1 a=104 b=57 c=8\n",
+        b"",
+    ),
+    // A proof, and the log of a question that was given up.
+    (
+        &["run", "--proofs"],
+        UNEQUAL,
         b"p.randomize();",
-    )?;
-    let printed = Case {
-        words: &["run", "--proofs"],
-        text: &unequal,
-        ..PLAIN
-    };
-    assert!(rt;
-        tells(
-            rt.alloc(),
-            &printed,
-            Status::SomeZero,
-            b"#1 p 0 hard\np hard\n",
-            b"\ne\n",
-            b""
-        )?
-    );
-    let given_up = Case {
-        words: &["run", "--budget=1"],
-        text: &unequal,
-        ..PLAIN
-    };
-    assert!(rt;
-        tells(
-            rt.alloc(),
-            &given_up,
-            Status::SomeGivenUp,
-            b"#1 p gaveup hard\n",
-            b"gaveup hard\n",
-            b"p gaveup hard\n"
-        )?
-    );
-    Ok(())
-}
-
-/// So many times an item of weight 8,259.
-fn heavy(alloc: Global, items: usize) -> Result<Vec<u8>, Fail> {
-    let mut text = Vec::from_slice(
-        alloc,
-        b"rand longint a; rand longint b; constraint c { a == 1; b == 1; } constraint h {",
-    )?;
-    for _item in 0..items {
-        text.extend_from_slice(b" a * b == 1;")?;
-    }
-    text.extend_from_slice(b" }")?;
-    script(
-        alloc,
-        &text,
-        b"p.h.constraint_mode(0); p.randomize(); p.h.constraint_mode(1); p.c.constraint_mode(0); p.randomize(); p.randomize();",
-    )
-}
+        Status::SomeZero,
+        b"#1 p 0 hard\np hard\n",
+        b"\ne\n",
+        b"",
+    ),
+    (
+        &["run", "--budget=1"],
+        UNEQUAL,
+        b"p.randomize();",
+        Status::SomeGivenUp,
+        b"#1 p gaveup hard\n",
+        b"gaveup hard\n",
+        b"p gaveup hard\n",
+    ),
+];
 
 #[test]
-fn limit(rt: HostRuntime) -> Result<(), Fail> {
-    let text = heavy(rt.alloc(), 122)?;
-    let asked = Case {
-        text: &text,
-        ..PLAIN
-    };
-    let lines = b"#1 p 1 a=1 b=1\n#2 p limit weight 1007598\n";
-    assert!(rt; says(rt.alloc(), &asked, Status::Limited, lines)?);
+fn fronts(rt: HostRuntime) -> Result<(), Fail> {
+    for (i, (words, items, stmts, status, begin, end, journal)) in FRONTS.iter().enumerate() {
+        let text = script(rt.alloc(), items, stmts)?;
+        let asked = Case {
+            words: *words,
+            text: &text,
+            ..PLAIN
+        };
+        assert!(rt;
+            tells(rt.alloc(), &asked, *status, begin, end, journal)?,
+            "front {i}"
+        );
+    }
     Ok(())
 }
 
@@ -439,35 +430,73 @@ fn refusals(rt: HostRuntime) -> Result<(), Fail> {
     Ok(())
 }
 
-/// `a == 1`, the 1 within so many pairs of parentheses.
-fn nested(alloc: Global, pairs: usize) -> Result<Vec<u8>, Fail> {
-    let mut items = Vec::from_slice(alloc, b"rand bit a; constraint c { a == ")?;
-    items.extend_from_slice(&vec![in alloc; b'('; pairs]?)?;
-    items.extend_from_slice(b"1")?;
-    items.extend_from_slice(&vec![in alloc; b')'; pairs]?)?;
-    items.extend_from_slice(b"; }")?;
-    script(alloc, &items, b"p.randomize();")
-}
+const NESTED: &[u8] = b"rand bit a; constraint c { a == ";
+
+// A text of parts, each so many times: how the run ends, and what it prints.
+const LONG: [(&[(&[u8], usize)], Status, &[u8]); 4] = [
+    // `a == 1`, the 1 within pairs of parentheses.
+    (
+        &[
+            (CLASS, 1),
+            (NESTED, 1),
+            (b"(", 125),
+            (b"1", 1),
+            (b")", 125),
+            (b"; }", 1),
+            (MODULE, 1),
+            (b"p.randomize();", 1),
+            (END, 1),
+        ],
+        Status::AllOne,
+        b"#1 p 1 a=1\n",
+    ),
+    (
+        &[
+            (CLASS, 1),
+            (NESTED, 1),
+            (b"(", 126),
+            (b"1", 1),
+            (b")", 126),
+            (b"; }", 1),
+            (MODULE, 1),
+            (b"p.randomize();", 1),
+            (END, 1),
+        ],
+        Status::Refused,
+        b"refused 2:158 6\n",
+    ),
+    (&[(b" ", 4_194_305)], Status::Refused, b"refused 0:0 27\n"),
+    // 122 items, each of weight 8,259.
+    (
+        &[
+            (CLASS, 1),
+            (
+                b"rand longint a; rand longint b; constraint c { a == 1; b == 1; } constraint h {",
+                1,
+            ),
+            (b" a * b == 1;", 122),
+            (b" }", 1),
+            (MODULE, 1),
+            (
+                b"p.h.constraint_mode(0); p.randomize(); p.h.constraint_mode(1); p.c.constraint_mode(0); p.randomize(); p.randomize();",
+                1,
+            ),
+            (END, 1),
+        ],
+        Status::Limited,
+        b"#1 p 1 a=1 b=1\n#2 p limit weight 1007598\n",
+    ),
+];
 
 #[test]
-fn height_and_length(rt: HostRuntime) -> Result<(), Fail> {
-    let low = nested(rt.alloc(), 125)?;
-    let asked = Case {
-        text: &low,
-        ..PLAIN
-    };
-    assert!(rt; says(rt.alloc(), &asked, Status::AllOne, b"#1 p 1 a=1\n")?);
-    let high = nested(rt.alloc(), 126)?;
-    let asked = Case {
-        text: &high,
-        ..PLAIN
-    };
-    assert!(rt; says(rt.alloc(), &asked, Status::Refused, b"refused 2:158 6\n")?);
-    let long = vec![in rt.alloc(); b' '; 4_194_305]?;
-    let asked = Case {
-        text: &long,
-        ..PLAIN
-    };
-    assert!(rt; says(rt.alloc(), &asked, Status::Refused, b"refused 0:0 27\n")?);
+fn long(rt: HostRuntime) -> Result<(), Fail> {
+    for (i, (parts, status, written)) in LONG.iter().enumerate() {
+        let text = joined(rt.alloc(), parts)?;
+        let asked = Case {
+            text: &text,
+            ..PLAIN
+        };
+        assert!(rt; says(rt.alloc(), &asked, *status, written)?, "long {i}");
+    }
     Ok(())
 }

@@ -1,17 +1,15 @@
-use Rattle.std.proofs.Common.{◌≡◌, ◌<◌, ◌^◌, ℕ, List, length, sym, ap, ◌∙◌, subst}
+use Rattle.std.proofs.Common.{◌≡◌, ◌<◌, ◌^◌, List, length, sym, ap, ◌∙◌, subst}
 use Rattle.std.proofs.lemmas.Result.{IfOk-weaker}
 use Rattle.svr_query.specs.Logged.{valuation_of}
 use Rattle.svr_eval.specs.declared.assign.Assign.{Assign}
-use Rattle.svr_eval.specs.Reading.{Reading, reading_of}
+use Rattle.svr_eval.specs.Reading.{reading_of}
 use Rattle.svr_frame.specs.declared.part.Part.TheVariants.{All as Whole}
 use Rattle.svr_frame.specs.declared.slot.Slot.{Slot}
 use Rattle.svr_frame.specs.Frame.{frame_term, state_at}
-use Rattle.svr_frame.specs.Phases.{unknowns_of}
-use Rattle.svr_frame.specs.Satisfaction.{is_at, is_size_of}
 use Rattle.svr_vector.specs.Places.{rows}
-use Rattle.svr_encoded.specs.Slots.{place_where, positive_bits, widths_of, reading_at}
+use Rattle.svr_encoded.specs.Slots.{positive_bits, widths_of, reading_at}
 use Rattle.svr_encoded.proofs.RoomLemmas.{few_slots}
-use Rattle.svr_found.proofs.OfPhase.{is_assignment, meets_hard}
+use Rattle.svr_found.proofs.OfPhase.{is_assignment, meets_kept}
 use Rattle.svr_found.proofs.found.assignment_found.Goals as goal
 
 pub table_of-requires : goal.table_of-requires
@@ -42,4 +40,4 @@ returns-clause-meets c =
     let f = frame_term c.args.frame.now in
     let reads = rw (c.as_slice-slots.ensures.value, c.as_slice.ensures.value) at c.slots_found.ensures.reads in
     IfOk-weaker c.slots_found.result (λ (a : Assign). reading_of a ≡ reading_at (state_at f c.args.sizes.now) c.args.encoding.now.slots.items (rows c.args.encoding.now.bits.items) (valuation_of c.args.values.now)) _
-    (λ a h. meets_hard f c.args.sizes.now c.requires.sound c.requires.fit c.args.encoding.now c.requires.encodes c.args.values.now c.requires.model (reading_of a) h) reads
+    (λ a h. meets_kept f c.args.sizes.now c.requires.sound c.requires.fit c.args.encoding.now c.requires.encodes c.args.values.now (reading_of a) h) reads

@@ -1,4 +1,4 @@
-use Rattle.std.proofs.Common.{◌≡◌, ◌+◌, ◌*◌, ◌<◌, ◌^◌, arith}
+use Rattle.std.proofs.Common.{arith}
 use Rattle.svr_gate.proofs.NumberLemmas.{bit-le}
 use Rattle.svr_query.specs.Logged.{valuation_of}
 use Rattle.svr_question.proofs.Backwards.{none_read, one_read, room}

@@ -13,7 +13,7 @@ pub returns-clause-step : goal.returns-clause-step
 returns-clause-step c =
     let w = c.args.world.now in
     subst (λ (w2 : WorldTerm). CallStep c.args.world.now c.args.object (frame_term c.args.frame.now) c.args.number c.args.opts c.in_ok-found.found.outcome w2) (sym c.write.ensures)
-    (c.in_ok-found.ensures.answer (object_of w c.args.object).used w c.args.object)
+    (c.in_ok-found.ensures.answer w c.args.object)
 
 pub returns-clause-fits : goal.returns-clause-fits
 returns-clause-fits c = λ fits.

@@ -1,12 +1,27 @@
+use Rattle.std.proofs.Common.{◌≡◌, ℕ, List, sym, ap, subst, ◌∙◌}
 use Rattle.std.proofs.lemmas.Result.{IfOk-weaker}
+use Rattle.svr_eval.specs.Reading.{Reading, reading_of}
+use Rattle.svr_frame.specs.declared.part.Part.TheVariants.{All as Whole}
+use Rattle.svr_frame.specs.Frame.{frame_term}
+use Rattle.svr_frame.specs.Satisfaction.{IsAssignment}
 use Rattle.svr_draw.specs.Words.{generator, word_of}
+use Rattle.svr_phase.specs.Sizes.{preferred_with}
+use Rattle.svr_phase.proofs.ChosenValues.{with_cyclic_is}
 use Rattle.svr_randomize.proofs.values.values_answer.Goals as goal
 
 pub decided-requires-clause-wish : goal.decided-requires-clause-wish
-decided-requires-clause-wish c = (word_of (generator c.args.opts.seed c.args.number), c.args.opts.size_cap, c.requires.cap, c.in_ok-preferred.ensures)
+decided-requires-clause-wish c =
+    let f = frame_term c.args.frame.now in
+    let words = word_of (generator c.args.opts.seed c.args.number) in
+    let is = with_cyclic_is f c.args.sizes.now c.requires.sound c.requires.fit c.args.opts.size_cap c.requires.cap words c.args.chosen.values c.requires.chosen in
+    subst (IsAssignment f Whole c.args.sizes.now c.args.chosen.values)
+    (sym (c.in_ok-preferred.ensures ∙ ap (preferred_with f Whole c.args.sizes.now c.args.opts.size_cap words) c.as_slice-values.ensures)) is
 
 pub returns-clause-answer : goal.returns-clause-answer
 returns-clause-answer c =
+    let f = frame_term c.args.frame.now in
+    let words = word_of (generator c.args.opts.seed c.args.number) in
     IfOk-weaker c.decided.result _ _
-    (λ r h used reached. h used (word_of (generator c.args.opts.seed c.args.number)) c.args.opts.size_cap c.requires.cap c.in_ok-preferred.ensures reached)
+    (λ r h used is reached. h used words c.args.opts.size_cap c.requires.cap is
+    (c.in_ok-preferred.ensures ∙ ap (preferred_with f Whole c.args.sizes.now c.args.opts.size_cap words) (c.as_slice-values.ensures ∙ is.chosen)) reached)
     c.decided.ensures.answer

@@ -4,7 +4,7 @@ use Rattle.svr_frame.specs.Frame.{frame_term}
 use Rattle.svr_run.specs.declared.stop.Stop.TheVariants.{NoMemory}
 use Rattle.svr_run.specs.Telling.{sinks}
 use Rattle.svr_run.proofs.Written.{all_ok, failed_so, failed_as}
-use Rattle.svr_run.proofs.Walking.{can_execute, has_room, counts_fit, halts_unless_hard, halts_here, halts_as, call_steps, call_halts}
+use Rattle.svr_run.proofs.Walking.{can_execute, has_room, counts_fit, halts_here, halts_as, call_steps, call_halts}
 use Rattle.svr_run.proofs.call.answer.Goals as goal
 
 pub overflow_add-number : goal.overflow_add-number
@@ -22,11 +22,6 @@ settle-requires-clause-few g c =
 pub settle-requires-clause-counts : goal.settle-requires-clause-counts
 settle-requires-clause-counts g c =
     counts_fit (design_term c.args.script.now.design.now) c.args.script.now.opts (call (call_term c.args.call.now)) c.args.progress.now _ c.requires.next
-
-pub returns-then-not-is_hard-clause-halts : goal.returns-then-not-is_hard-clause-halts
-returns-then-not-is_hard-clause-halts g c =
-    halts_unless_hard (design_term c.args.script.now.design.now) c.args.script.now.opts (call_term c.args.call.now) (frame_term c.args.frame.now) c.is_hard.result c.args.progress.now _
-    c.requires.going c.requires.framed c.is_hard.ensures c.if-not-is_hard.true
 
 pub returns-in_err-outcome-clause-halts : goal.returns-in_err-outcome-clause-halts
 returns-in_err-outcome-clause-halts g c =

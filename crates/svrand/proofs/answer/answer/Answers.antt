@@ -7,7 +7,7 @@ use Rattle.svrand.proofs.answer.answer.Goals as goal
 pub returns-in-Ok-Accepted : goal.returns-in-Ok-Accepted
 returns-in-Ok-Accepted g c =
     let read : HasDesign c.args.text.now (design_term c.in-Ok-Accepted.design) = rw c.in-Ok-Accepted.field-0-is at c.in-Ok-Accepted.ensures in
-    c.run_of.ensures c.args.text.now c.requires.small read
+    c.run_of-status.ensures c.args.text.now c.requires.small read
 
 pub returns-in-Ok-Refused : goal.returns-in-Ok-Refused
 returns-in-Ok-Refused g c =

@@ -1,10 +1,10 @@
 use Rattle.svr_typed.specs.StmtTerm.{design_term}
 use Rattle.svr_run_laws.proofs.Reached.{lawful_can_run}
-use Rattle.svrand.proofs.Runs.{ended_answers, limit_answers, cut_for_memory, cut_by_fault, refusal_answers_call}
+use Rattle.svrand.proofs.Runs.{ended_answers, limit_answers, cut_for_memory, cut_by_fault}
 use Rattle.svrand.proofs.answer.run_of.Goals as goal
 
 pub run_script-requires-clause-can_run : goal.run_script-requires-clause-can_run
-run_script-requires-clause-can_run g c = lawful_can_run (design_term c.args.design.now) c.args.opts c.requires.ranges.1 c.requires.lawful
+run_script-requires-clause-can_run g c = lawful_can_run (design_term c.args.design.now) c.args.opts c.requires.ranges.2 c.requires.lawful
 
 pub returns-in-Ended : goal.returns-in-Ended
 returns-in-Ended g c = λ text small read.
@@ -18,6 +18,3 @@ returns-in-Stopped-NoMemory g c = λ text small read. cut_for_memory (design_ter
 
 pub returns-in-Stopped-WriteFault : goal.returns-in-Stopped-WriteFault
 returns-in-Stopped-WriteFault g c = λ text small read. cut_by_fault (design_term c.args.design.now) c.args.opts text small read _ _ (rw (c.in-Stopped-WriteFault.is, c.in-Stopped-WriteFault.field-0-is) at c.run_script.ensures)
-
-pub returns-in-Stopped-NotHard : goal.returns-in-Stopped-NotHard
-returns-in-Stopped-NotHard g c = λ text small read. refusal_answers_call (design_term c.args.design.now) c.args.opts text small read _ _ (rw (c.in-Stopped-NotHard.is, c.in-Stopped-NotHard.field-0-is) at c.run_script.ensures) _ _ _ c.refuse.ensures.ends c.refuse.ensures.faults

@@ -1,0 +1,4 @@
+pub mod Turned
+pub mod Fixed
+pub mod OfState
+pub mod Encodable

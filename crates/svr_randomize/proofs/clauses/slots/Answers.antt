@@ -1,4 +1,0 @@
-use Rattle.svr_randomize.proofs.clauses.slots.Goals as goal
-
-pub unknowns-requires : goal.unknowns-requires
-unknowns-requires c = c.requires.properties

@@ -1,0 +1,13 @@
+pub mod Widths
+pub mod Turned
+pub mod Caps
+pub mod Truths
+pub mod Within
+pub mod Readings
+pub mod Rooted
+pub mod Bridge
+pub mod Ended
+pub mod Wish
+pub mod SizeRows
+pub mod Asked
+pub mod Decided

@@ -1,0 +1,46 @@
+// Whether values meet the items of a call that are needed.
+
+ghost use Rattle.std.specs.Prelude.{◌≡◌, false, not, ◌||◌, [], map, slice_index_or};
+ghost use Rattle.std.specs.List.{All, list_all};
+ghost use Rattle.svr_typed.specs.ExprTerm.{expr_term};
+ghost use Rattle.svr_eval.specs.Reading.{reading_of};
+ghost use Rattle.svr_eval.specs.Value.{alone, is_set};
+ghost use Rattle.svr_eval.specs.Typed.{IsTyped, CanRead};
+ghost use Rattle.svr_values.specs.Needed.{needed_of};
+
+use crate::hold::holds;
+use svr_eval::Assign;
+use svr_typed::TExpr;
+
+/// Whether the mark at a place says that an item is needed.
+fn is_needed(needed: &[bool], at: usize) -> bool
+    ensures { result ≡ slice_index_or needed.now at false }
+{
+    match needed.get(at) {
+        Some(mark) => *mark,
+        None => false,
+    }
+}
+
+/// Whether a closed expression has a value that is not 0, where that is needed.
+fn holds_if_needed(item: &TExpr, needed: bool, a: &Assign) -> bool
+    requires typed { IsTyped (expr_term item.now) }
+    requires reads { CanRead (reading_of a.now) 0 (expr_term item.now) }
+    ensures { result ≡ (not needed || is_set (alone (reading_of a.now) [] (expr_term item.now))) }
+{
+    !needed || holds(item, a)
+}
+
+/// Whether each closed expression that is marked as needed has a value that is not 0.
+pub fn needed_hold(items: &[TExpr], needed: &[bool], a: &Assign) -> bool
+    requires typed { All (λ e. IsTyped (expr_term e)) items.now }
+    requires reads { All (λ e. CanRead (reading_of a.now) 0 (expr_term e)) items.now }
+    ensures { result ≡ list_all (λ e. is_set (alone (reading_of a.now) [] e)) (needed_of (map expr_term items.now) needed.now) }
+{
+    for (at, item) in items.iter().enumerate() {
+        if !holds_if_needed(item, is_needed(needed, at), a) {
+            return false;
+        }
+    }
+    true
+}
