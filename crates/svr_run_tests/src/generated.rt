@@ -82,7 +82,7 @@ fn script(alloc: Global, number: u64) -> Vec<u8> {
         b"p.randomize(); p.randomize(); p.randomize() with { ",
     );
     let _last = items(&mut stmts, state);
-    joined(&mut stmts, b"}; repeat (4) p.randomize();");
+    joined(&mut stmts, b"}; p.randomize();");
     text_of(alloc, &class, &stmts)
 }
 
@@ -125,5 +125,5 @@ fn are_proved(alloc: Global, scripts: u64) -> bool {
 
 #[test]
 fn made_scripts_are_proved(rt: HostRuntime) {
-    assert!(rt; are_proved(rt.alloc(), 40));
+    assert!(rt; are_proved(rt.alloc(), 50));
 }

@@ -42,6 +42,7 @@ fn run_design(alloc: Global, design: Design, opts: Options, out: &mut MemSink) -
     has_ended(end)
 }
 
+#[tactic(auto, using(crate::proofs::Runs::is_lawful))]
 fn run_tree(
     alloc: Global,
     text: &[u8],

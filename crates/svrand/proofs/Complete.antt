@@ -6,6 +6,7 @@ use Rattle.svr_script.specs.Ending as ending
 use Rattle.svr_script.specs.Ending.{Output}
 use Rattle.svr_run.specs.Telling.{Sinks}
 use Rattle.svrand.specs.Words.{IsCommand}
+use Rattle.svrand.proofs.Taking.{run_is_no_load}
 use Rattle.svrand.specs.Answer.{Ends}
 use Rattle.svrand.specs.Outcome.{Refuses, too_long, refused, Writes, IsAnswerable, IsAnswered, RunsAreComplete}
 use Rattle.svrand.specs.declared.status.Status.{Status}
@@ -33,12 +34,15 @@ module _ (words : List (List ℕ)) (text : List ℕ) (able : IsAnswerable words 
   is_answered SomeZero old new writes read write = inr (inl refl)
   is_answered SomeGivenUp old new writes read write = inr (inr (inl refl))
   is_answered NoMemory old new writes read write = inr (inr (inr refl))
-  is_answered Usage old new (output, inl (e, none, is), out, journal) read write = absurd (none able.opts able.asked)
-  is_answered Usage old new (output, inr (opts, asked, none), out, journal) read write = absurd none
+  is_answered Usage old new (output, inl (e, none, is), out, journal) read write = absurd (none.no_run able.opts able.asked)
+  is_answered Usage old new (output, inr (inl (opts, asked, none)), out, journal) read write = absurd none
+  is_answered Usage old new (output, inr (inr (count, opts, asked, none)), out, journal) read write = absurd none
   is_answered Refused old new (output, inl (e, none, is), out, journal) read write = absurd (refused_no_usage e)
-  is_answered Refused old new (output, inr (opts, asked, refuses), out, journal) read write = absurd (never_refused output refuses)
+  is_answered Refused old new (output, inr (inl (opts, asked, refuses)), out, journal) read write = absurd (never_refused output refuses)
+  is_answered Refused old new (output, inr (inr (count, opts, asked, refuses)), out, journal) read write = absurd (run_is_no_load words able.opts count opts able.asked asked)
   is_answered Limited old new (output, inl (e, none, is), out, journal) read write = absurd (limited_no_usage e)
-  is_answered Limited old new (output, inr (opts, asked, answers), out, journal) read write = absurd (never_limited opts output asked answers.1)
+  is_answered Limited old new (output, inr (inl (opts, asked, answers)), out, journal) read write = absurd (never_limited opts output asked answers.1)
+  is_answered Limited old new (output, inr (inr (count, opts, asked, answers)), out, journal) read write = absurd (run_is_no_load words able.opts count opts able.asked asked)
   is_answered ReadFault old new writes read write = absurd (read refl)
   is_answered WriteFault old new writes read write = absurd (write refl)
 

@@ -15,7 +15,7 @@ use Rattle.clap.specs.Facts.{EntryPasses, ValuesPass, PassesArg, HasReading, arg
 use Rattle.clap.specs.Built.{IsParsedFrom, IsAuto, SameRules, NamesNoGroup}
 use Rattle.clap.specs.Matches.{found_of, matched_of, one_text, ReadsOne}
 use Rattle.clap.specs.Values.{Accepts, IsUnsignedIn, read_as, reading_of, kind_of}
-use Rattle.clap.specs.Walk.{Rule, Text, one_of, rows_of, rule_of, is_empty, is_simple_arg}
+use Rattle.clap.specs.Walk.{Row, Rule, Text, one_of, rows_of, rule_of, is_empty, is_simple_arg}
 use Rattle.clap.specs.Simple.{App, app_of, HasMatchesOf, is_simple, has_plain_fields, matches_of}
 use Rattle.clap.specs.Faults.{fault_of, is_simple_and_free}
 use Rattle.clap.specs.Kinds.{FailsBy, HasKind, IsAmong}
@@ -36,16 +36,18 @@ use Rattle.clap.proofs.CallerLemmas.{entry_by_id}
 use Rattle.clap.proofs.WalkLemmas.{one_text-rows}
 use Rattle.clap.proofs.OnLiterals.{clap_on_literals}
 use Rattle.svr_phase.specs.declared.options.Options.{Options}
-use Rattle.svrand.specs.Words.{run_command, number_or, is_set, options_of, IsCommand}
-use Rattle.svrand.specs.Taken.{IsNumber, IsTruth, AreTaken}
+use Rattle.svrand.specs.Words.{option, flag, run_command, class_count, load_command, number_or, is_set, options_of, IsCommand, IsLoad, AskNothing}
+use Rattle.svrand.specs.Taken.{IsNumber, IsTruth, AreTaken, LoadIsTaken}
 
 -- ---- the command
 
-run_is_simple : is_simple_and_free run_command ≡ true
-run_is_simple = refl
-
-run_is_plain : is_simple run_command ≡ true
-run_is_plain = refl
+-- the options of both commands, with what stands behind them
+abbrev with_rest : List Rule → List Rule
+with_rest rest =
+    option (codes "seed") (Unsigned 0 18446744073709551615)
+    ∷ option (codes "budget") (Unsigned 1 16777216)
+    ∷ option (codes "size-cap") (Unsigned 1 2048)
+    ∷ flag (codes "proofs") ∷ rest
 
 -- ---- what stands in the matches
 
@@ -58,6 +60,20 @@ Finds P name (r ∷ rs) = ((bytes_eq r.id name ≡ true) × P (parser_of_value r
 abbrev have_parsers : List Rule → Bool
 have_parsers [] = true
 have_parsers (r ∷ rs) = is_some r.parser && have_parsers rs
+
+-- a command as `clap` is known to read it
+record IsRead (app : App) : Type 0 where
+  is_free : is_simple_and_free app ≡ true
+  is_simple : is_simple app ≡ true
+  is_plain : app.top.is_plain ≡ true
+  have : have_parsers app.top.rules ≡ true
+  simple : list_all (λ (r : Rule). r.is_simple) app.top.rules ≡ true
+
+run_is_read : IsRead run_command
+run_is_read = record { is_free = refl; is_simple = refl; is_plain = refl; have = refl; simple = refl }
+
+load_is_read : IsRead load_command
+load_is_read = record { is_free = refl; is_simple = refl; is_plain = refl; have = refl; simple = refl }
 
 both : (a b : Bool) → (a && b) ≡ true → (a ≡ true) × (b ≡ true)
 both true true e = (refl, refl)
@@ -194,47 +210,60 @@ took_of c m p have values groups name text named no_help no_version (Some x) e t
     }
 
 -- what a parse of the command has taken for a name that is none of building's own
-took : (c : Command) (m : ArgMatches) (p : IsParsedFrom c m) → app_of c ≡ run_command → (name text : Text)
+took : (app : App) (c : Command) (m : ArgMatches) (p : IsParsedFrom c m) → IsRead app → app_of c ≡ app → (name text : Text)
     → (name ≡ [] → ⊥) → (name ≡ codes "help" → ⊥) → (name ≡ codes "version" → ⊥) → one_text (found_of m) name ≡ Some text
     → Took (map rule_of (args_of c)) name text
-took c m p is name text named no_help no_version told =
-    let plain : has_plain_fields (out-Command c) ≡ true = ap (λ (a : App). a.top.is_plain) is in
-    let rules : map rule_of (args_of c) ≡ run_command.top.rules = ap (λ (a : App). a.top.rules) is in
-    let have : have_parsers (map rule_of (args_of c)) ≡ true = subst (λ (rs : List Rule). have_parsers rs ≡ true) (sym rules) refl in
-    let simple : list_all (λ (r : Rule). r.is_simple) (map rule_of (args_of c)) ≡ true = subst (λ (rs : List Rule). list_all (λ (r : Rule). r.is_simple) rs ≡ true) (sym rules) refl in
+took app c m p read is name text named no_help no_version told =
+    let plain : has_plain_fields (out-Command c) ≡ true = ap (λ (a : App). a.top.is_plain) is ∙ read.is_plain in
+    let rules : map rule_of (args_of c) ≡ app.top.rules = ap (λ (a : App). a.top.rules) is in
+    let have : have_parsers (map rule_of (args_of c)) ≡ true = subst (λ (rs : List Rule). have_parsers rs ≡ true) (sym rules) read.have in
+    let simple : list_all (λ (r : Rule). r.is_simple) (map rule_of (args_of c)) ≡ true = subst (λ (rs : List Rule). list_all (λ (r : Rule). r.is_simple) rs ≡ true) (sym rules) read.simple in
     let globals : (out-Command c).has_globals ≡ false = has_no_globals c plain in
     let groups : groups_of p.built ≡ [] = (p.from.same_groups (no_groups (args_of c) simple)).1 ∙ has_no_groups c plain in
     took_of c m p have (p.parsed (p.from.globals ∙ globals)).values groups name text named no_help no_version (matched_of (found_of m) name) refl told
 
 -- ---- the parser of each name
 
-at_seed : (P : ValueParser → Type 0) → Finds P (codes "seed") run_command.top.rules → P (Unsigned 0 18446744073709551615)
-at_seed P (inl (e, h)) = h
-at_seed P (inr (inl (e, h))) = absurd (false≢true e)
-at_seed P (inr (inr (inl (e, h)))) = absurd (false≢true e)
-at_seed P (inr (inr (inr (inl (e, h))))) = absurd (false≢true e)
-at_seed P (inr (inr (inr (inr none)))) = absurd none
+at_seed : (P : ValueParser → Type 0) (rest : List Rule) → (Finds P (codes "seed") rest → ⊥) → Finds P (codes "seed") (with_rest rest) → P (Unsigned 0 18446744073709551615)
+at_seed P rest none (inl (e, h)) = h
+at_seed P rest none (inr (inl (e, h))) = absurd (false≢true e)
+at_seed P rest none (inr (inr (inl (e, h)))) = absurd (false≢true e)
+at_seed P rest none (inr (inr (inr (inl (e, h))))) = absurd (false≢true e)
+at_seed P rest none (inr (inr (inr (inr later)))) = absurd (none later)
 
-at_budget : (P : ValueParser → Type 0) → Finds P (codes "budget") run_command.top.rules → P (Unsigned 1 16777216)
-at_budget P (inl (e, h)) = absurd (false≢true e)
-at_budget P (inr (inl (e, h))) = h
-at_budget P (inr (inr (inl (e, h)))) = absurd (false≢true e)
-at_budget P (inr (inr (inr (inl (e, h))))) = absurd (false≢true e)
-at_budget P (inr (inr (inr (inr none)))) = absurd none
+at_budget : (P : ValueParser → Type 0) (rest : List Rule) → (Finds P (codes "budget") rest → ⊥) → Finds P (codes "budget") (with_rest rest) → P (Unsigned 1 16777216)
+at_budget P rest none (inl (e, h)) = absurd (false≢true e)
+at_budget P rest none (inr (inl (e, h))) = h
+at_budget P rest none (inr (inr (inl (e, h)))) = absurd (false≢true e)
+at_budget P rest none (inr (inr (inr (inl (e, h))))) = absurd (false≢true e)
+at_budget P rest none (inr (inr (inr (inr later)))) = absurd (none later)
 
-at_size_cap : (P : ValueParser → Type 0) → Finds P (codes "size-cap") run_command.top.rules → P (Unsigned 1 2048)
-at_size_cap P (inl (e, h)) = absurd (false≢true e)
-at_size_cap P (inr (inl (e, h))) = absurd (false≢true e)
-at_size_cap P (inr (inr (inl (e, h)))) = h
-at_size_cap P (inr (inr (inr (inl (e, h))))) = absurd (false≢true e)
-at_size_cap P (inr (inr (inr (inr none)))) = absurd none
+at_size_cap : (P : ValueParser → Type 0) (rest : List Rule) → (Finds P (codes "size-cap") rest → ⊥) → Finds P (codes "size-cap") (with_rest rest) → P (Unsigned 1 2048)
+at_size_cap P rest none (inl (e, h)) = absurd (false≢true e)
+at_size_cap P rest none (inr (inl (e, h))) = absurd (false≢true e)
+at_size_cap P rest none (inr (inr (inl (e, h)))) = h
+at_size_cap P rest none (inr (inr (inr (inl (e, h))))) = absurd (false≢true e)
+at_size_cap P rest none (inr (inr (inr (inr later)))) = absurd (none later)
 
-at_proofs : (P : ValueParser → Type 0) → Finds P (codes "proofs") run_command.top.rules → P Truth
-at_proofs P (inl (e, h)) = absurd (false≢true e)
-at_proofs P (inr (inl (e, h))) = absurd (false≢true e)
-at_proofs P (inr (inr (inl (e, h)))) = absurd (false≢true e)
-at_proofs P (inr (inr (inr (inl (e, h))))) = h
-at_proofs P (inr (inr (inr (inr none)))) = absurd none
+at_proofs : (P : ValueParser → Type 0) (rest : List Rule) → (Finds P (codes "proofs") rest → ⊥) → Finds P (codes "proofs") (with_rest rest) → P Truth
+at_proofs P rest none (inl (e, h)) = absurd (false≢true e)
+at_proofs P rest none (inr (inl (e, h))) = absurd (false≢true e)
+at_proofs P rest none (inr (inr (inl (e, h)))) = absurd (false≢true e)
+at_proofs P rest none (inr (inr (inr (inl (e, h))))) = h
+at_proofs P rest none (inr (inr (inr (inr later)))) = absurd (none later)
+
+at_count : (P : ValueParser → Type 0) → Finds P (codes "N") (with_rest (class_count ∷ [])) → P (Unsigned 1 2000)
+at_count P (inl (e, h)) = absurd (false≢true e)
+at_count P (inr (inl (e, h))) = absurd (false≢true e)
+at_count P (inr (inr (inl (e, h)))) = absurd (false≢true e)
+at_count P (inr (inr (inr (inl (e, h))))) = absurd (false≢true e)
+at_count P (inr (inr (inr (inr (inl (e, h)))))) = h
+at_count P (inr (inr (inr (inr (inr none))))) = absurd none
+
+-- the count is none of the options
+not_count : (P : ValueParser → Type 0) (name : Text) → bytes_eq (codes "N") name ≡ false → Finds P name (class_count ∷ []) → ⊥
+not_count P name other (inl (e, h)) = absurd (false≢true (sym other ∙ e))
+not_count P name other (inr none) = none
 
 number_of : (low high : ℕ) (text value : Text) (how : Reading) → text ≡ read_as how value → ((i : Bool) × Accepts i (Unsigned low high) value) → AsWritten ≡ how → IsUnsignedIn low high text
 number_of low high text value how read passed is = subst (IsUnsignedIn low high) (sym (read ∙ ap (λ (h : Reading). read_as h value) (sym is))) passed.1
@@ -246,25 +275,48 @@ differ : (xs ys : Text) (x y : ℕ) → get_or xs 0 0 ≡ x → get_or ys 0 0 �
 differ xs ys x y first second (inl less) e = let same : x ≡ y = sym first ∙ ap (λ (t : Text). get_or t 0 0) e ∙ second in absurd (omega arith)
 differ xs ys x y first second (inr less) e = let same : x ≡ y = sym first ∙ ap (λ (t : Text). get_or t 0 0) e ∙ second in absurd (omega arith)
 
-pub are_taken : (c : Command) (m : ArgMatches) → app_of c ≡ run_command → IsParsedFrom c m → AreTaken (found_of m)
-are_taken c m is p = record {
+-- no rule of these has the name of an option
+record NamesNoOption (rest : List Rule) : Type 1 where
+  seed : (P : ValueParser → Type 0) → Finds P (codes "seed") rest → ⊥
+  budget : (P : ValueParser → Type 0) → Finds P (codes "budget") rest → ⊥
+  size_cap : (P : ValueParser → Type 0) → Finds P (codes "size-cap") rest → ⊥
+  proofs : (P : ValueParser → Type 0) → Finds P (codes "proofs") rest → ⊥
+
+options_are_taken : (app : App) (rest : List Rule) (c : Command) (m : ArgMatches) → IsRead app → app.top.rules ≡ with_rest rest → NamesNoOption rest
+    → app_of c ≡ app → IsParsedFrom c m → AreTaken (found_of m)
+options_are_taken app rest c m reads rules other is p = record {
   seed = λ text told.
-      let t = with_rules (codes "seed") text (took c m p is (codes "seed") text (differ (codes "seed") [] 115 0 refl refl (inr (omega arith))) (differ (codes "seed") (codes "help") 115 104 refl refl (inr (omega arith))) (differ (codes "seed") (codes "version") 115 118 refl refl (inl (omega arith))) told) in
-      number_of 0 18446744073709551615 text t.value t.how t.read (at_seed (λ q. (i : Bool) × Accepts i q t.value) t.passed) (at_seed (λ q. reading_of q ≡ t.how) t.reads);
+      let t = with_rules (codes "seed") text (took app c m p reads is (codes "seed") text (differ (codes "seed") [] 115 0 refl refl (inr (omega arith))) (differ (codes "seed") (codes "help") 115 104 refl refl (inr (omega arith))) (differ (codes "seed") (codes "version") 115 118 refl refl (inl (omega arith))) told) in
+      number_of 0 18446744073709551615 text t.value t.how t.read (at_seed (λ q. (i : Bool) × Accepts i q t.value) rest (other.seed (λ q. (i : Bool) × Accepts i q t.value)) t.passed) (at_seed (λ q. reading_of q ≡ t.how) rest (other.seed (λ q. reading_of q ≡ t.how)) t.reads);
   budget = λ text told.
-      let t = with_rules (codes "budget") text (took c m p is (codes "budget") text (differ (codes "budget") [] 98 0 refl refl (inr (omega arith))) (differ (codes "budget") (codes "help") 98 104 refl refl (inl (omega arith))) (differ (codes "budget") (codes "version") 98 118 refl refl (inl (omega arith))) told) in
-      number_of 1 16777216 text t.value t.how t.read (at_budget (λ q. (i : Bool) × Accepts i q t.value) t.passed) (at_budget (λ q. reading_of q ≡ t.how) t.reads);
+      let t = with_rules (codes "budget") text (took app c m p reads is (codes "budget") text (differ (codes "budget") [] 98 0 refl refl (inr (omega arith))) (differ (codes "budget") (codes "help") 98 104 refl refl (inl (omega arith))) (differ (codes "budget") (codes "version") 98 118 refl refl (inl (omega arith))) told) in
+      number_of 1 16777216 text t.value t.how t.read (at_budget (λ q. (i : Bool) × Accepts i q t.value) rest (other.budget (λ q. (i : Bool) × Accepts i q t.value)) t.passed) (at_budget (λ q. reading_of q ≡ t.how) rest (other.budget (λ q. reading_of q ≡ t.how)) t.reads);
   size_cap = λ text told.
-      let t = with_rules (codes "size-cap") text (took c m p is (codes "size-cap") text (differ (codes "size-cap") [] 115 0 refl refl (inr (omega arith)))
+      let t = with_rules (codes "size-cap") text (took app c m p reads is (codes "size-cap") text (differ (codes "size-cap") [] 115 0 refl refl (inr (omega arith)))
       (differ (codes "size-cap") (codes "help") 115 104 refl refl (inr (omega arith))) (differ (codes "size-cap") (codes "version") 115 118 refl refl (inl (omega arith))) told) in
-      number_of 1 2048 text t.value t.how t.read (at_size_cap (λ q. (i : Bool) × Accepts i q t.value) t.passed) (at_size_cap (λ q. reading_of q ≡ t.how) t.reads);
+      number_of 1 2048 text t.value t.how t.read (at_size_cap (λ q. (i : Bool) × Accepts i q t.value) rest (other.size_cap (λ q. (i : Bool) × Accepts i q t.value)) t.passed) (at_size_cap (λ q. reading_of q ≡ t.how) rest (other.size_cap (λ q. reading_of q ≡ t.how)) t.reads);
   proofs = λ text told.
-      let t = with_rules (codes "proofs") text (took c m p is (codes "proofs") text (differ (codes "proofs") [] 112 0 refl refl (inr (omega arith))) (differ (codes "proofs") (codes "help") 112 104 refl refl (inr (omega arith))) (differ (codes "proofs") (codes "version") 112 118 refl refl (inl (omega arith))) told) in
-      truth_of text t.value t.how t.read (at_proofs (λ q. (i : Bool) × Accepts i q t.value) t.passed) (at_proofs (λ q. reading_of q ≡ t.how) t.reads);
+      let t = with_rules (codes "proofs") text (took app c m p reads is (codes "proofs") text (differ (codes "proofs") [] 112 0 refl refl (inr (omega arith))) (differ (codes "proofs") (codes "help") 112 104 refl refl (inr (omega arith))) (differ (codes "proofs") (codes "version") 112 118 refl refl (inl (omega arith))) told) in
+      truth_of text t.value t.how t.read (at_proofs (λ q. (i : Bool) × Accepts i q t.value) rest (other.proofs (λ q. (i : Bool) × Accepts i q t.value)) t.passed) (at_proofs (λ q. reading_of q ≡ t.how) rest (other.proofs (λ q. reading_of q ≡ t.how)) t.reads);
 }
   where
-    with_rules : (name text : Text) → Took (map rule_of (args_of c)) name text → Took run_command.top.rules name text
-    with_rules name text t = subst (λ (rs : List Rule). Took rs name text) (ap (λ (a : App). a.top.rules) is) t
+    with_rules : (name text : Text) → Took (map rule_of (args_of c)) name text → Took (with_rest rest) name text
+    with_rules name text t = subst (λ (rs : List Rule). Took rs name text) (ap (λ (a : App). a.top.rules) is ∙ rules) t
+
+pub are_taken : (c : Command) (m : ArgMatches) → app_of c ≡ run_command → IsParsedFrom c m → AreTaken (found_of m)
+are_taken c m is p = options_are_taken run_command [] c m run_is_read refl (record { seed = λ P none. none; budget = λ P none. none; size_cap = λ P none. none; proofs = λ P none. none }) is p
+
+pub load_is_taken : (c : Command) (m : ArgMatches) → app_of c ≡ load_command → IsParsedFrom c m → LoadIsTaken (found_of m)
+load_is_taken c m is p = record {
+  count = λ text told.
+      let t = with_rules text (took load_command c m p load_is_read is (codes "N") text (differ (codes "N") [] 78 0 refl refl (inr (omega arith))) (differ (codes "N") (codes "help") 78 104 refl refl (inl (omega arith))) (differ (codes "N") (codes "version") 78 118 refl refl (inl (omega arith))) told) in
+      number_of 1 2000 text t.value t.how t.read (at_count (λ q. (i : Bool) × Accepts i q t.value) t.passed) (at_count (λ q. reading_of q ≡ t.how) t.reads);
+  options = options_are_taken load_command (class_count ∷ []) c m load_is_read refl
+      (record { seed = λ P. not_count P (codes "seed") refl; budget = λ P. not_count P (codes "budget") refl; size_cap = λ P. not_count P (codes "size-cap") refl; proofs = λ P. not_count P (codes "proofs") refl }) is p;
+}
+  where
+    with_rules : (text : Text) → Took (map rule_of (args_of c)) (codes "N") text → Took (with_rest (class_count ∷ [])) (codes "N") text
+    with_rules text t = subst (λ (rs : List Rule). Took rs (codes "N") text) (ap (λ (a : App). a.top.rules) is) t
 
 -- ---- how it is read
 
@@ -306,32 +358,82 @@ in_range f name low high default number least most =
     go None e = (least, most)
     go (Some t) e = ((number t e).2, (number t e).3)
 
+pub at_most : (f : Found) (name : Text) (low high default : ℕ) → IsNumber f name low high → default ≤ high → number_or default (one_of name (rows_of f)) ≤ high
+at_most f name low high default number most =
+    subst (λ (o : Option Text). number_or default o ≤ high) (one_text-rows f name) (go (one_text f name) refl)
+  where
+    go : (o : Option Text) → one_text f name ≡ o → number_or default o ≤ high
+    go None e = most
+    go (Some t) e = (number t e).3
+
 -- ---- the words
+
+-- what a parse that succeeds says of the words
+parsed_words : (app : App) (words : List Text) (c : Command) (m : ArgMatches) (r : Result ArgMatches Error) → IsRead app → app_of c ≡ app → r ≡ Ok m
+    → (is_simple_and_free (app_of c) ≡ true → FailsBy (fault_of (app_of c) words) r) → IfOk r (HasMatchesOf (app_of c) words)
+    → (fault_of app words ≡ []) × (rows_of (found_of m) ≡ matches_of app words)
+parsed_words app words c m r read is ok kinds matches =
+    let none : fault_of (app_of c) words ≡ [] = subst (λ (x : Result ArgMatches Error). FailsBy (fault_of (app_of c) words) x) ok (kinds (ap is_simple_and_free is ∙ read.is_free)) in
+    let has : HasMatchesOf (app_of c) words m = subst (λ (x : Result ArgMatches Error). IfOk x (HasMatchesOf (app_of c) words)) ok matches in
+    let rows : rows_of (found_of m) ≡ matches_of (app_of c) words = (has (ap is_simple is ∙ read.is_simple)).0 in
+    (subst (λ (a : App). fault_of a words ≡ []) is none, rows ∙ ap (λ (a : App). matches_of a words) is)
+
+-- and one that fails
+failed_words : (app : App) (words : List Text) (c : Command) (e : Error) (r : Result ArgMatches Error) → IsRead app → app_of c ≡ app → r ≡ Err e
+    → (is_simple_and_free (app_of c) ≡ true → FailsBy (fault_of (app_of c) words) r) → (kind_of e ≡ OutOfMemory → ⊥) → fault_of app words ≡ [] → ⊥
+failed_words app words c e r read is err kinds other none =
+    let has : HasKind (fault_of (app_of c) words) e = subst (λ (x : Result ArgMatches Error). FailsBy (fault_of (app_of c) words) x) err (kinds (ap is_simple_and_free is ∙ read.is_free)) in
+    let at : HasKind [] e = subst (λ k. HasKind k e) (subst (λ (a : App). fault_of a words ≡ []) (sym is) none) has in
+    elim at [
+      | inl memory ↦ other memory
+      | inr never ↦ absurd never
+    ]
 
 pub asked : (words : List Text) (c : Command) (m : ArgMatches) (r : Result ArgMatches Error) (opts : Options)
     → slice_get words 0 ≡ Some (codes "run") → app_of c ≡ run_command → r ≡ Ok m
     → (is_simple_and_free (app_of c) ≡ true → FailsBy (fault_of (app_of c) words) r) → IfOk r (HasMatchesOf (app_of c) words)
     → opts ≡ options_of (rows_of (found_of m)) → IsCommand words opts
 asked words c m r opts first is ok kinds matches read =
-    let none : fault_of (app_of c) words ≡ [] = subst (λ (x : Result ArgMatches Error). FailsBy (fault_of (app_of c) words) x) ok (kinds (ap is_simple_and_free is ∙ run_is_simple)) in
-    let has : HasMatchesOf (app_of c) words m = subst (λ (x : Result ArgMatches Error). IfOk x (HasMatchesOf (app_of c) words)) ok matches in
-    let rows : rows_of (found_of m) ≡ matches_of (app_of c) words = (has (ap is_simple is ∙ run_is_plain)).0 in
-    record {
-      named = first;
-      taken = subst (λ (a : App). fault_of a words ≡ []) is none;
-      options = read ∙ ap options_of rows ∙ ap (λ (a : App). options_of (matches_of a words)) is;
-    }
+    let h : (fault_of run_command words ≡ []) × (rows_of (found_of m) ≡ matches_of run_command words) = parsed_words run_command words c m r run_is_read is ok kinds matches in
+    record { named = first; taken = h.0; options = read ∙ ap options_of h.1 }
 
 pub not_asked : (words : List Text) (c : Command) (e : Error) (r : Result ArgMatches Error) → app_of c ≡ run_command → r ≡ Err e
     → (is_simple_and_free (app_of c) ≡ true → FailsBy (fault_of (app_of c) words) r) → (kind_of e ≡ OutOfMemory → ⊥)
     → (opts : Options) → IsCommand words opts → ⊥
-not_asked words c e r is err kinds other opts command =
-    let has : HasKind (fault_of (app_of c) words) e = subst (λ (x : Result ArgMatches Error). FailsBy (fault_of (app_of c) words) x) err (kinds (ap is_simple_and_free is ∙ run_is_simple)) in
-    let at : HasKind [] e = subst (λ k. HasKind k e) (subst (λ (a : App). fault_of a words ≡ []) (sym is) command.taken) has in
-    elim at [
-      | inl memory ↦ other memory
-      | inr never ↦ absurd never
-    ]
+not_asked words c e r is err kinds other opts command = failed_words run_command words c e r run_is_read is err kinds other command.taken
+
+pub load_asked : (words : List Text) (c : Command) (m : ArgMatches) (r : Result ArgMatches Error) (count : ℕ) (opts : Options)
+    → slice_get words 0 ≡ Some (codes "load") → app_of c ≡ load_command → r ≡ Ok m
+    → (is_simple_and_free (app_of c) ≡ true → FailsBy (fault_of (app_of c) words) r) → IfOk r (HasMatchesOf (app_of c) words)
+    → count ≡ number_or 0 (one_of (codes "N") (rows_of (found_of m))) → opts ≡ options_of (rows_of (found_of m)) → IsLoad words count opts
+load_asked words c m r count opts first is ok kinds matches counted read =
+    let h : (fault_of load_command words ≡ []) × (rows_of (found_of m) ≡ matches_of load_command words) = parsed_words load_command words c m r load_is_read is ok kinds matches in
+    record { named = first; taken = h.0; counted = counted ∙ ap (λ (rows : List Row). number_or 0 (one_of (codes "N") rows)) h.1; options = read ∙ ap options_of h.1 }
+
+pub load_not_asked : (words : List Text) (c : Command) (e : Error) (r : Result ArgMatches Error) → app_of c ≡ load_command → r ≡ Err e
+    → (is_simple_and_free (app_of c) ≡ true → FailsBy (fault_of (app_of c) words) r) → (kind_of e ≡ OutOfMemory → ⊥)
+    → (count : ℕ) (opts : Options) → IsLoad words count opts → ⊥
+load_not_asked words c e r is err kinds other count opts load = failed_words load_command words c e r load_is_read is err kinds other load.taken
+
+-- ---- the first word
+
+-- no word is both
+names_differ : (o : Option Text) → o ≡ Some (codes "run") → o ≡ Some (codes "load") → ⊥
+names_differ o run load =
+    let same : codes "run" ≡ codes "load" = ap (λ (x : Option Text). unwrap_or x (codes "run")) (sym run ∙ load) in
+    differ (codes "run") (codes "load") 114 108 refl refl (inr (omega arith)) same
+
+pub run_is_no_load : (words : List Text) (a : Options) (count : ℕ) (b : Options) → IsCommand words a → IsLoad words count b → ⊥
+run_is_no_load words a count b run load = names_differ (slice_get words 0) run.named load.named
+
+pub nothing_for_run : (words : List Text) → slice_get words 0 ≡ Some (codes "run") → ((opts : Options) → IsCommand words opts → ⊥) → AskNothing words
+nothing_for_run words first none = record { no_run = none; no_load = λ count opts load. names_differ (slice_get words 0) first load.named }
+
+pub nothing_for_load : (words : List Text) → slice_get words 0 ≡ Some (codes "load") → ((count : ℕ) (opts : Options) → IsLoad words count opts → ⊥) → AskNothing words
+nothing_for_load words first none = record { no_run = λ opts run. names_differ (slice_get words 0) run.named first; no_load = none }
+
+pub nothing_for_other : (words : List Text) → (slice_get words 0 ≡ Some (codes "run") → ⊥) → (slice_get words 0 ≡ Some (codes "load") → ⊥) → AskNothing words
+nothing_for_other words no_run no_load = record { no_run = λ opts run. no_run run.named; no_load = λ count opts load. no_load load.named }
 
 pub head_is : {A B : Type 0} (f : A → B) (xs : List A) (x : A) → 1 ≤ length xs → x ≡ get_or xs 0 x → slice_get (map f xs) 0 ≡ Some (f x)
 head_is f [] x less is = absurd (omega arith)

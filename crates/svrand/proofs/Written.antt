@@ -1,5 +1,5 @@
 -- What was written, and what it stands for.
-use Rattle.std.proofs.Common.{◌≡◌, ◌≤◌, ◌<◌, ◌⊎◌, ℕ, ◌+◌, List, length, Option, IfSome, refl, sym, ◌∙◌, subst, inl, inr, arith}
+use Rattle.std.proofs.Common.{◌≡◌, ◌≤◌, ◌<◌, ◌⊎◌, ℕ, ◌+◌, List, length, Option, Some, None, IfSome, refl, sym, ◌∙◌, subst, inl, inr, arith}
 use Rattle.std.specs.Prelude.{⊤}
 use Rattle.std.specs.Io.KnownBytes.{Appends, Consumes, IsAtEnd, Keeps}
 use Rattle.std.proofs.KnownBytes.{Appends-nil, Keeps-refl}
@@ -10,11 +10,11 @@ use Rattle.svr_phase.specs.declared.options.Options.{Options}
 use Rattle.svr_script.specs.Ending.{Output}
 use Rattle.svr_refusal.specs.declared.refusal.Refusal.TheVariants as refusal
 use Rattle.svr_run.specs.Telling.{Sinks, SinkFailed}
-use Rattle.svrand.specs.Words.{IsCommand}
+use Rattle.svrand.specs.Words.{IsCommand, IsLoad, AskNothing}
 use Rattle.svrand.specs.Lines.{refused_at, nowhere}
 use Rattle.svrand.specs.Answer.{IsRefused}
-use Rattle.svrand.specs.Outcome.{prints, usage_text, too_long, refused, Refuses, Answers, MayTell, Says, MaySay, Writing, Writes}
-use Rattle.svrand.specs.Parts.{Answered}
+use Rattle.svrand.specs.Outcome.{prints, usage_text, too_long, refused, Refuses, Answers, MayTell, LoadAnswers, LoadMayTell, Says, MaySay, Writing, Writes}
+use Rattle.svrand.specs.Parts.{Answered, LoadAnswered}
 use Rattle.svrand.proofs.Told.{if_told, read_all, read_some}
 use Rattle.svrand.specs.declared.status.Status.{Status}
 use Rattle.svrand.specs.declared.status.Status.TheVariants.{AllOne, SomeZero, Usage, SomeGivenUp, Refused, Limited, ReadFault, WriteFault, NoMemory}
@@ -56,7 +56,23 @@ mapped A B M N f g NoMemory old new (inr (o, may, out, journal)) = inr (o, g o m
 pub answer_is_said : (words : List (List ℕ)) (opts : Options) (text : List ℕ) (status : Status) (old new : Sinks) → IsCommand words opts
     → Writing (Answers opts text) (MayTell opts text) status old new → Writes words text status old new
 answer_is_said words opts text status old new asked writing =
-    mapped (Answers opts text) (Says words text) (MayTell opts text) (MaySay words text) (λ s o h. inr (opts, asked, h)) (λ o h. inr (opts, asked, h)) status old new writing
+    mapped (Answers opts text) (Says words text) (MayTell opts text) (MaySay words text) (λ s o h. inr (inl (opts, asked, h))) (λ o h. inr (inl (opts, asked, h))) status old new writing
+
+pub load_is_said : (words : List (List ℕ)) (count : ℕ) (opts : Options) (text : List ℕ) (status : Status) (old new : Sinks) → IsLoad words count opts
+    → Writing (LoadAnswers count opts) (LoadMayTell count opts) status old new → Writes words text status old new
+load_is_said words count opts text status old new asked writing =
+    mapped (LoadAnswers count opts) (Says words text) (LoadMayTell count opts) (MaySay words text) (λ s o h. inr (inr (count, opts, asked, h))) (λ o h. inr (inr (count, opts, asked, h))) status old new writing
+
+-- over a source that tells its text
+pub source_is_said : (o : Option (List ℕ)) (words : List (List ℕ)) (opts : Options) (status : Status) (old new : Sinks) → IsCommand words opts
+    → IfSome o (λ text. Writing (Answers opts text) (MayTell opts text) status old new) → IfSome o (λ text. Writes words text status old new)
+source_is_said None words opts status old new asked writing = tt
+source_is_said (Some text) words opts status old new asked writing = answer_is_said words opts text status old new asked writing
+
+pub made_is_said : (o : Option (List ℕ)) (words : List (List ℕ)) (count : ℕ) (opts : Options) (status : Status) (old new : Sinks) → IsLoad words count opts
+    → LoadAnswered count opts status old new → IfSome o (λ text. Writes words text status old new)
+made_is_said None words count opts status old new asked answered = tt
+made_is_said (Some text) words count opts status old new asked answered = load_is_said words count opts text status old new asked answered.writing
 
 -- ---- one text
 
@@ -77,7 +93,7 @@ refusal_is_written opts text line result old new journal was now logged R said (
 
 -- the usage was printed, or a front of it
 pub usage_is_written : (words : List (List ℕ)) (text : List ℕ) (result : Status) (old new journal : Option (List ℕ)) (was now logged : ℕ) (R : Type 0)
-    → ((opts : Options) → IsCommand words opts → ⊥)
+    → AskNothing words
     → ((result ≡ Usage) × Appends old new usage_text) ⊎ ((result ≡ WriteFault) × AppendsFront old new usage_text × R)
     → Writes words text result (record { out = old; journal = journal; out_faults = was; journal_faults = logged }) (record { out = new; journal = journal; out_faults = now; journal_faults = logged })
 usage_is_written words text result old new journal was now logged R none (inl (e, all)) =
@@ -120,7 +136,7 @@ nothing_answers opts text now = record {
 -- ---- over a source that tells its text
 
 pub usage_told : (o : Option (List ℕ)) (words : List (List ℕ)) (result : Status) (old new journal : Option (List ℕ)) (was now logged : ℕ) (R : Type 0)
-    → ((opts : Options) → IsCommand words opts → ⊥)
+    → AskNothing words
     → ((result ≡ Usage) × Appends old new usage_text) ⊎ ((result ≡ WriteFault) × AppendsFront old new usage_text × R)
     → IfSome o (λ text. Writes words text result (record { out = old; journal = journal; out_faults = was; journal_faults = logged }) (record { out = new; journal = journal; out_faults = now; journal_faults = logged }))
 usage_told o words result old new journal was now logged R none ends =
@@ -128,21 +144,21 @@ usage_told o words result old new journal was now logged R none ends =
     (λ text told. usage_is_written words text result old new journal was now logged R none ends)
 
 -- one byte past the limit was taken
-pub long_told : (o left : Option (List ℕ)) (words : List (List ℕ)) (opts : Options) (result : Status) (old new journal : Option (List ℕ)) (was now logged : ℕ) (R : Type 0)
-    → IsCommand words opts → Takes o left (TEXT_LIMIT + 1)
+pub long_told : (o left : Option (List ℕ)) (opts : Options) (result : Status) (old new journal : Option (List ℕ)) (was now logged : ℕ) (R : Type 0)
+    → Takes o left (TEXT_LIMIT + 1)
     → ((result ≡ Refused) × Appends old new (refused_at nowhere refusal.TooLong)) ⊎ (((result ≡ WriteFault) × AppendsFront old new (refused_at nowhere refusal.TooLong) × R) ⊎ ((result ≡ NoMemory) × Keeps old new))
-    → IfSome o (λ text. Writes words text result (record { out = old; journal = journal; out_faults = was; journal_faults = logged }) (record { out = new; journal = journal; out_faults = now; journal_faults = logged }))
-long_told o left words opts result old new journal was now logged R asked taken ends =
-    if_told o (λ text. Writes words text result (record { out = old; journal = journal; out_faults = was; journal_faults = logged }) (record { out = new; journal = journal; out_faults = now; journal_faults = logged }))
+    → IfSome o (λ text. Writing (Answers opts text) (MayTell opts text) result (record { out = old; journal = journal; out_faults = was; journal_faults = logged }) (record { out = new; journal = journal; out_faults = now; journal_faults = logged }))
+long_told o left opts result old new journal was now logged R taken ends =
+    if_told o (λ text. Writing (Answers opts text) (MayTell opts text) result (record { out = old; journal = journal; out_faults = was; journal_faults = logged }) (record { out = new; journal = journal; out_faults = now; journal_faults = logged }))
     (λ text told.
     let long : TEXT_LIMIT + 1 ≤ length text = read_some o left text (TEXT_LIMIT + 1) told taken in
     let more : TEXT_LIMIT < length text = omega arith in
-    answer_is_said words opts text result _ _ asked (refusal_is_written opts text (refused_at nowhere refusal.TooLong) result old new journal was now logged R (too_long more refl) ends))
+    (refusal_is_written opts text (refused_at nowhere refusal.TooLong) result old new journal was now logged R (too_long more refl) ends))
 
 -- the text was read to its end
-pub answer_told : (o left : Option (List ℕ)) (words : List (List ℕ)) (opts : Options) (all seen : List ℕ) (result : Status) (old new : Sinks)
-    → IsCommand words opts → Consumes o left all → IsAtEnd left → seen ≡ all → Answered opts seen result old new → IfSome o (λ text. Writes words text result old new)
-answer_told o left words opts all seen result old new asked taken end is answered =
-    if_told o (λ text. Writes words text result old new) (λ text told.
+pub answer_told : (o left : Option (List ℕ)) (opts : Options) (all seen : List ℕ) (result : Status) (old new : Sinks)
+    → Consumes o left all → IsAtEnd left → seen ≡ all → Answered opts seen result old new → IfSome o (λ text. Writing (Answers opts text) (MayTell opts text) result old new)
+answer_told o left opts all seen result old new taken end is answered =
+    if_told o (λ text. Writing (Answers opts text) (MayTell opts text) result old new) (λ text told.
     let same : text ≡ all = read_all o left text all told taken end in
-    subst (λ (t : List ℕ). Writes words t result old new) (sym (same ∙ sym is)) (answer_is_said words opts seen result old new asked answered.writing))
+    subst (λ (t : List ℕ). Writing (Answers opts t) (MayTell opts t) result old new) (sym (same ∙ sym is)) answered.writing)

@@ -8,6 +8,7 @@ use Rattle.svr_refusal.specs.declared.place.Place.{Place}
 use Rattle.svr_refusal.specs.declared.refusal.Refusal.{Refusal}
 use Rattle.svr_refusal.specs.declared.refusal.Refusal.TheVariants as refusal
 use Rattle.svr_refusal.specs.Numbers.{number_of}
+use Rattle.svr_script.specs.Run.{Counts}
 
 -- the parts of a text as the code holds them
 abbrev pub seen : List (Bor (List ℕ)) → List (List ℕ)
@@ -30,3 +31,7 @@ lexical_refusal bad_byte = refusal.BadByte
 lexical_refusal open_comment = refusal.OpenComment
 lexical_refusal bad_literal = refusal.BadLiteral
 lexical_refusal literal_too_wide = refusal.LiteralTooWide
+
+-- the line of a load of so many classes, with what its calls answered
+abbrev pub load_line : ℕ → Counts → List ℕ
+load_line count n = concat (codes "load " ∷ decimal count ∷ codes " one " ∷ decimal n.ones ∷ codes " zero " ∷ decimal n.zeros ∷ codes " gaveup " ∷ decimal n.given_up ∷ codes "\n" ∷ [])

@@ -9,9 +9,10 @@ use Rattle.svr_phase.specs.declared.options.Options.{Options}
 use Rattle.svr_script.specs.Ending as ending
 use Rattle.svr_script.specs.Ending.{Output}
 use Rattle.svr_run.specs.Telling.{Sinks}
-use Rattle.svrand.specs.Words.{IsCommand}
+use Rattle.svr_load.specs.Script.{load_text}
+use Rattle.svrand.specs.Words.{IsCommand, IsLoad, AskNothing}
 use Rattle.svrand.specs.Lines.{refused_at, nowhere}
-use Rattle.svrand.specs.Answer.{IsRefused, Ends, Begins}
+use Rattle.svrand.specs.Answer.{IsRefused, Ends, Begins, LoadEnds, LoadBegins}
 use Rattle.svrand.specs.declared.status.Status.{Status}
 use Rattle.svrand.specs.declared.status.Status.TheVariants.{AllOne, SomeZero, Usage, SomeGivenUp, Refused, Limited, ReadFault, WriteFault, NoMemory}
 
@@ -45,16 +46,33 @@ Answers opts text NoMemory output = ⊥
 abbrev pub MayTell : Options → List ℕ → Output → Type 0
 MayTell opts text output = ((status : Status) × Answers opts text status output) ⊎ ((length text ≤ TEXT_LIMIT) × Begins opts text output)
 
+-- a load of so many classes ends with this status and has this to write
+abbrev pub LoadAnswers : ℕ → Options → Status → Output → Type 0
+LoadAnswers count opts AllOne output = LoadEnds count opts ending.AllOne output
+LoadAnswers count opts SomeZero output = LoadEnds count opts ending.SomeZero output
+LoadAnswers count opts SomeGivenUp output = LoadEnds count opts ending.SomeGivenUp output
+LoadAnswers count opts Limited output = LoadEnds count opts ending.Limited output
+LoadAnswers count opts Refused output = Refuses (load_text count) output
+LoadAnswers count opts Usage output = ⊥
+LoadAnswers count opts ReadFault output = ⊥
+LoadAnswers count opts WriteFault output = ⊥
+LoadAnswers count opts NoMemory output = ⊥
+
+abbrev pub LoadMayTell : ℕ → Options → Output → Type 0
+LoadMayTell count opts output = ((status : Status) × LoadAnswers count opts status output) ⊎ LoadBegins count opts output
+
 -- the program with these words over this text ends with this status and has this to write
 abbrev pub Says : List (List ℕ) → List ℕ → Status → Output → Type 0
 Says words text status output =
-    ((status ≡ Usage) × ((opts : Options) → IsCommand words opts → ⊥) × (output ≡ prints usage_text))
-    ⊎ ((opts : Options) × IsCommand words opts × Answers opts text status output)
+    ((status ≡ Usage) × AskNothing words × (output ≡ prints usage_text))
+    ⊎ (((opts : Options) × IsCommand words opts × Answers opts text status output)
+    ⊎ ((count : ℕ) × (opts : Options) × IsLoad words count opts × LoadAnswers count opts status output))
 
 abbrev pub MaySay : List (List ℕ) → List ℕ → Output → Type 0
 MaySay words text output =
-    (((opts : Options) → IsCommand words opts → ⊥) × (output ≡ prints usage_text))
-    ⊎ ((opts : Options) × IsCommand words opts × MayTell opts text output)
+    (AskNothing words × (output ≡ prints usage_text))
+    ⊎ (((opts : Options) × IsCommand words opts × MayTell opts text output)
+    ⊎ ((count : ℕ) × (opts : Options) × IsLoad words count opts × LoadMayTell count opts output))
 
 -- ---- what is written
 

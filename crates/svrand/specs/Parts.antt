@@ -1,11 +1,17 @@
 -- What the functions of the program promise one another.
-use Rattle.std.specs.Prelude.{◌≡◌, ◌<◌, ◌≤◌, List, ℕ}
+use Rattle.std.specs.Prelude.{◌≡◌, ◌<◌, ◌≤◌, ◌⊎◌, List, ℕ}
+use Rattle.std.specs.declared.option.Option.{Option}
+use Rattle.std.specs.Io.KnownBytes.{Appends, Keeps}
+use Rattle.svr_edge.specs.Causes.{Rose}
+use Rattle.svr_edge.specs.Known.{AppendsFront}
+use Rattle.svr_script.specs.Run as script
+use Rattle.svrand.specs.Lines.{load_line}
 use Rattle.svr_typed.specs.StmtTerm.{design_term}
 use Rattle.svr_phase.specs.declared.options.Options.{Options}
 use Rattle.svr_run.specs.declared.progress.Counts.{Counts}
 use Rattle.svr_run.specs.Telling.{Sinks, SinkFailed}
 use Rattle.svrand.specs.Answer.{HasDesign, IsRefused}
-use Rattle.svrand.specs.Outcome.{Answers, MayTell, Writing}
+use Rattle.svrand.specs.Outcome.{Answers, MayTell, LoadAnswers, LoadMayTell, Writing}
 use Rattle.svrand.specs.declared.design.Reading.{Reading}
 use Rattle.svrand.specs.declared.design.Reading.TheVariants as reading
 use Rattle.svrand.specs.declared.status.Status.{Status}
@@ -35,3 +41,23 @@ pub record Answered (opts : Options) (text : List ℕ) (status : Status) (old ne
   pub cause : status ≡ WriteFault → SinkFailed old new
   pub out_later : old.out_faults ≤ new.out_faults
   pub journal_later : old.journal_faults ≤ new.journal_faults
+
+-- ---- loads
+
+abbrev pub totals : Counts → script.Counts
+totals n = record { ones = n.ones; zeros = n.zeros; given_up = n.given_up }
+
+-- a load is answered with this status, and so much was written
+pub record LoadAnswered (count : ℕ) (opts : Options) (status : Status) (old new : Sinks) : Type 0 where
+  pub writing : Writing (LoadAnswers count opts) (LoadMayTell count opts) status old new
+  pub nothing_read : status ≡ ReadFault → ⊥
+  pub cause : status ≡ WriteFault → SinkFailed old new
+  pub out_later : old.out_faults ≤ new.out_faults
+  pub journal_later : old.journal_faults ≤ new.journal_faults
+
+-- The line of a load was written, with the status of its answers; or a front of it; or memory was wanting.
+abbrev pub Told : ℕ → Counts → Status → Option (List ℕ) → ℕ → Option (List ℕ) → ℕ → Type 0
+Told count n status old was new now =
+    ((HasStatus n status × Appends old new (load_line count (totals n)))
+    ⊎ (((status ≡ WriteFault) × AppendsFront old new (load_line count (totals n)) × Rose was now)
+    ⊎ ((status ≡ NoMemory) × Keeps old new))) × (was ≤ now)

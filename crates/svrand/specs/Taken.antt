@@ -6,6 +6,9 @@ use Rattle.clap.specs.Values.{IsUnsignedIn}
 use Rattle.clap.specs.Matches.{one_text}
 use Rattle.clap.specs.declared.parser.matches.Found.{Found}
 use Rattle.svr_phase.specs.declared.options.Options.{Options}
+use Rattle.svrand.specs.Words.{IsCommand, IsLoad}
+use Rattle.svrand.specs.declared.command.Request.{Request}
+use Rattle.svrand.specs.declared.command.Request.TheVariants as request
 
 -- a text that was taken for this option writes a number from low to high
 abbrev pub IsNumber : Found → List ℕ → ℕ → ℕ → Type 0
@@ -24,3 +27,13 @@ pub record AreTaken (f : Found) : Type 0 where
 -- a question may take some step, some array may have an element, and none passes the limit of arrays
 abbrev pub AreInRange : Options → Type 0
 AreInRange opts = (1 ≤ opts.budget) × (1 ≤ opts.size_cap) × (opts.size_cap ≤ 2048)
+
+-- what was taken for a load
+pub record LoadIsTaken (f : Found) : Type 0 where
+  pub count : IsNumber f (codes "N") 1 2000
+  pub options : AreTaken f
+
+-- the words ask for this, and its numbers are in their ranges
+abbrev pub Asks : List (List ℕ) → Request → Type 0
+Asks words (request.Run opts) = IsCommand words opts × AreInRange opts
+Asks words (request.Load load) = IsLoad words load.count load.opts × (load.count ≤ 2000) × AreInRange load.opts

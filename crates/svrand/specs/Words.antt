@@ -17,17 +17,27 @@ option name parser = record (new_rule name) { long = Some name; action = Some Se
 abbrev pub flag : Text → Rule
 flag name = record (new_rule name) { long = Some name; action = Some SetTrue; parser = Some Truth }
 
--- `run` with its options, and without help
-abbrev pub plain_run : App
-plain_run = on_top (λ s. record s { disable_help_flag = true }) (new_app (codes "run"))
+-- a command with the options of a run, and without help
+abbrev pub plain_command : Text → App
+plain_command name = on_top (λ s. record s { disable_help_flag = true }) (new_app name)
 
-abbrev pub run_command : App
-run_command =
-    with_rule (with_rule (with_rule (with_rule plain_run
+abbrev pub with_options : Text → App
+with_options name =
+    with_rule (with_rule (with_rule (with_rule (plain_command name)
     (option (codes "seed") (Unsigned 0 18446744073709551615)))
     (option (codes "budget") (Unsigned 1 16777216)))
     (option (codes "size-cap") (Unsigned 1 2048)))
     (flag (codes "proofs"))
+
+abbrev pub run_command : App
+run_command = with_options (codes "run")
+
+-- how many classes the script of a load has
+abbrev pub class_count : Rule
+class_count = record (new_rule (codes "N")) { action = Some Set; parser = Some (Unsigned 1 2000); required = true }
+
+abbrev pub load_command : App
+load_command = with_rule (with_options (codes "load")) class_count
 
 -- the number of an option, where it was used
 abbrev pub number_or : ℕ → Option Text → ℕ
@@ -52,3 +62,15 @@ pub record IsCommand (words : List Text) (opts : Options) : Type 0 where
   pub named : slice_get words 0 ≡ Some (codes "run")
   pub taken : fault_of run_command words ≡ []
   pub options : opts ≡ options_of (matches_of run_command words)
+
+-- The words ask for a load of so many classes with these options.
+pub record IsLoad (words : List Text) (count : ℕ) (opts : Options) : Type 0 where
+  pub named : slice_get words 0 ≡ Some (codes "load")
+  pub taken : fault_of load_command words ≡ []
+  pub counted : count ≡ number_or 0 (one_of (codes "N") (matches_of load_command words))
+  pub options : opts ≡ options_of (matches_of load_command words)
+
+-- the words ask for neither
+pub record AskNothing (words : List Text) : Type 0 where
+  pub no_run : (opts : Options) → IsCommand words opts → ⊥
+  pub no_load : (count : ℕ) (opts : Options) → IsLoad words count opts → ⊥

@@ -10,6 +10,7 @@ mod design;
 mod finish;
 mod laws;
 mod line;
+mod load;
 mod refusal;
 mod run;
 mod status;

@@ -1,25 +1,59 @@
 // The top call.
 ghost use Rattle.std.specs.Prelude.{◌≡◌, ◌≤◌, ◌⊎◌, map, IfSome, string_bytes};
+ghost use Rattle.std.specs.Io.KnownBytes.{Keeps};
 ghost use Rattle.svr_edge.specs.Causes.{Rose};
 ghost use Rattle.svr_phase.specs.declared.options.Options.{Options as OptionsType};
-ghost use Rattle.svrand.specs.Words.{IsCommand};
-ghost use Rattle.svrand.specs.Outcome.{Writes, HasRead, HasReadText, EndsUnread};
+ghost use Rattle.svrand.specs.Words.{IsCommand, AskNothing};
+ghost use Rattle.svrand.specs.Taken.{AreInRange};
+ghost use Rattle.svrand.specs.Outcome.{Answers, MayTell, Writing, Writes, HasRead, HasReadText, EndsUnread};
 
 use crate::answer::answer;
-use crate::command::command;
+use crate::command::{Request, command};
 use crate::finish::{finish, refuse};
+use crate::load::load;
 use crate::status::Status;
 use std::alloc::{AllocError, Global};
 use svr_edge::{ReadEnd, Sink, Source, read_text};
 use svr_limits::TEXT_LIMIT;
+use svr_phase::Options;
 use svr_refusal::Refusal;
 
 const USAGE: &[u8] =
     b"usage: svrand run [--seed N] [--budget N] [--size-cap N] [--proofs]\n       svrand load N [--seed N] [--budget N] [--size-cap N] [--proofs]\n";
 
+/// The run of the script that a source has.
+fn run_source<S: Source, K: Sink, J: Sink>(
+    alloc: Global,
+    opts: Options,
+    src: &mut S,
+    out: &mut K,
+    journal: &mut J,
+) -> Status
+    requires { AreInRange opts }
+    ensures writing { IfSome (S.left src.old) (λ text.
+        Writing (Answers opts text) (MayTell opts text) result
+        (record { out = K.written out.old; journal = J.written journal.old; out_faults = K.faults out.old; journal_faults = J.faults journal.old })
+        (record { out = K.written out.new; journal = J.written journal.new; out_faults = K.faults out.new; journal_faults = J.faults journal.new })) }
+    ensures extent { IfSome (S.left src.old) (λ text. HasReadText text result (S.left src.old) (S.left src.new)) }
+    ensures command { result ≡ Status.Usage → ⊥ }
+    ensures read { HasRead result (S.left src.old) (S.left src.new) }
+    ensures read_fault { result ≡ Status.ReadFault → Rose (S.faults src.old) (S.faults src.new) }
+    ensures write_fault { result ≡ Status.WriteFault → Rose (K.faults out.old) (K.faults out.new) ⊎ Rose (J.faults journal.old) (J.faults journal.new) }
+    ensures source_faults { S.faults src.old ≤ S.faults src.new }
+    ensures out_faults { K.faults out.old ≤ K.faults out.new }
+    ensures journal_faults { J.faults journal.old ≤ J.faults journal.new }
+{
+    match read_text(alloc, src, TEXT_LIMIT) {
+        Ok(text) => answer(alloc, opts, &text, out, journal),
+        Err(ReadEnd::TooLong) => refuse(alloc, out, Refusal::TooLong),
+        Err(ReadEnd::Failed) => Status::ReadFault,
+        Err(ReadEnd::NoMemory) => Status::NoMemory,
+    }
+}
+
 /// All that the program does.
 ///
-/// `words` are the words behind the program's name. The script is read from `src`, all printed text goes to `out`, and the log of each question that was given up to `journal`. What a call tells is written before the next one is asked. The status is the one that the process is to end with.
+/// `words` are the words behind the program's name. The script is read from `src`, or made where the words ask for a load; all printed text goes to `out`, and the log of each question that was given up to `journal`. What a call tells is written before the next one is asked. The status is the one that the process is to end with.
 pub fn run<S: Source, K: Sink, J: Sink>(
     alloc: Global,
     words: &[String],
@@ -34,27 +68,25 @@ pub fn run<S: Source, K: Sink, J: Sink>(
         (record { out = K.written out.new; journal = J.written journal.new; out_faults = K.faults out.new; journal_faults = J.faults journal.new })) }
 
     // The part of the text that was read goes with the refusal: one byte past the limit where the text is too long, else all.
-    ensures extent { IfSome (S.left src.old) (λ text. HasReadText text result (S.left src.old) (S.left src.new)) }
+    ensures extent { (opts : OptionsType) → IsCommand (map (λ w. string_bytes w) words.now) opts → IfSome (S.left src.old) (λ text. HasReadText text result (S.left src.old) (S.left src.new)) }
     // Over any source: what the words alone decide, how far the text was read, and each fault's cause.
-    ensures usage { result ≡ Status.Usage → (opts : OptionsType) → IsCommand (map (λ w. string_bytes w) words.now) opts → ⊥ }
-    ensures no_command { ((opts : OptionsType) → IsCommand (map (λ w. string_bytes w) words.now) opts → ⊥) → EndsUnread result }
-    ensures read { HasRead result (S.left src.old) (S.left src.new) }
+    ensures usage { result ≡ Status.Usage → AskNothing (map (λ w. string_bytes w) words.now) }
+    ensures no_command { AskNothing (map (λ w. string_bytes w) words.now) → EndsUnread result }
+    ensures read { (opts : OptionsType) → IsCommand (map (λ w. string_bytes w) words.now) opts → HasRead result (S.left src.old) (S.left src.new) }
+    ensures unread { ((opts : OptionsType) → IsCommand (map (λ w. string_bytes w) words.now) opts → ⊥) → Keeps (S.left src.old) (S.left src.new) }
     ensures read_fault { result ≡ Status.ReadFault → Rose (S.faults src.old) (S.faults src.new) }
     ensures write_fault { result ≡ Status.WriteFault → Rose (K.faults out.old) (K.faults out.new) ⊎ Rose (J.faults journal.old) (J.faults journal.new) }
     ensures source_faults { S.faults src.old ≤ S.faults src.new }
     ensures out_faults { K.faults out.old ≤ K.faults out.new }
     ensures journal_faults { J.faults journal.old ≤ J.faults journal.new }
 {
-    let opts = match command(alloc, words) {
-        Ok(Some(opts)) => opts,
+    let request = match command(alloc, words) {
+        Ok(Some(request)) => request,
         Ok(None) => return finish(out, USAGE, Status::Usage),
         Err(AllocError) => return Status::NoMemory,
     };
-    let text = match read_text(alloc, src, TEXT_LIMIT) {
-        Ok(text) => text,
-        Err(ReadEnd::TooLong) => return refuse(alloc, out, Refusal::TooLong),
-        Err(ReadEnd::Failed) => return Status::ReadFault,
-        Err(ReadEnd::NoMemory) => return Status::NoMemory,
-    };
-    answer(alloc, opts, &text, out, journal)
+    match request {
+        Request::Run(opts) => run_source(alloc, opts, src, out, journal),
+        Request::Load(asked) => load(alloc, asked, out, journal),
+    }
 }

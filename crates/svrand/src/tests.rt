@@ -101,7 +101,7 @@ const PLAIN: Case<'static> = Case {
 };
 
 // Words, and what a run with them ends with and prints.
-const WORDS: [(&[&str], Status, &[u8]); 21] = [
+const WORDS: [(&[&str], Status, &[u8]); 28] = [
     (&["run"], Status::AllOne, LINES),
     (&["run", "--seed", "0042"], Status::AllOne, LINES),
     (&["run", "--seed=42"], Status::AllOne, LINES),
@@ -122,7 +122,27 @@ const WORDS: [(&[&str], Status, &[u8]); 21] = [
     ),
     (&[], Status::Usage, USAGE),
     (&["--seed", "1"], Status::Usage, USAGE),
-    (&["load", "10"], Status::Usage, USAGE),
+    (&["load"], Status::Usage, USAGE),
+    (&["load", "0"], Status::Usage, USAGE),
+    (&["load", "2001"], Status::Usage, USAGE),
+    (&["load", "x"], Status::Usage, USAGE),
+    (&["load", "1", "2"], Status::Usage, USAGE),
+    // Loads. The source is not read, and `--proofs` prints nothing more.
+    (
+        &["load", "1"],
+        Status::AllOne,
+        b"load 1 one 1 zero 0 gaveup 0\n",
+    ),
+    (
+        &["load", "10"],
+        Status::SomeZero,
+        b"load 10 one 8 zero 2 gaveup 0\n",
+    ),
+    (
+        &["load", "--seed=7", "5", "--proofs"],
+        Status::SomeZero,
+        b"load 5 one 4 zero 1 gaveup 0\n",
+    ),
     (&["run", "--seed"], Status::Usage, USAGE),
     (&["run", "--seed", "x"], Status::Usage, USAGE),
     (&["run", "--seed", ""], Status::Usage, USAGE),

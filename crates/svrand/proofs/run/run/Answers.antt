@@ -1,22 +1,25 @@
-use Rattle.std.proofs.Common.{arith, rules, ap, Err, ◌≡◌, ◌<◌, ◌≤◌, ◌+◌, length, map, List, ℕ, string_bytes}
-use Rattle.svr_edge.specs.Known.{Takes}
-use Rattle.svr_limits.specs.declared.limit.TheConstants.{TEXT_LIMIT}
-use Rattle.svr_phase.specs.declared.options.Options.{Options}
-use Rattle.svrand.specs.Words.{IsCommand}
-use Rattle.svrand.proofs.Told.{if_told, read_all, read_some, answer_read, answer_read_text, refusal_read, refusal_read_text, usage_read, usage_read_text, ends_unread, refusal_no_usage, answer_no_usage}
-use Rattle.svrand.proofs.Written.{usage_told, long_told, answer_told}
+use Rattle.std.proofs.Common.{map, string_bytes}
+use Rattle.std.proofs.KnownBytes.{Keeps-refl}
+use Rattle.svrand.specs.Words.{AskNothing}
+use Rattle.svrand.specs.Taken.{Asks}
+use Rattle.svrand.specs.declared.command.Request.TheVariants.{Run, Load}
+use Rattle.svrand.proofs.Taking.{run_is_no_load}
+use Rattle.svrand.proofs.Told.{ends_unread}
+use Rattle.svrand.proofs.Written.{usage_told, source_is_said, made_is_said}
+use Rattle.svrand.proofs.Loads.{load_no_usage}
 use Rattle.svrand.proofs.run.run.Goals as goal
 
 -- ---- words that are no command
 
 pub returns-in-Ok-None-clause-headline : goal.returns-in-Ok-None-clause-headline
 returns-in-Ok-None-clause-headline g c =
-    let none : (opts : Options) → IsCommand (map (λ w. string_bytes w) c.args.words.now) opts → ⊥ = rw c.in-Ok-None.field-0-is at c.in-Ok-None.ensures.none in
+    let none : AskNothing (map (λ w. string_bytes w) c.args.words.now) = rw c.in-Ok-None.field-0-is at c.in-Ok-None.ensures.none in
     usage_told (g.S.Source.left c.args.src.now) (map (λ w. string_bytes w) c.args.words.now) c.finish.result _ _ _ _ _ _ _ none c.finish.ensures.ends
 
 pub returns-in-Ok-None-clause-extent : goal.returns-in-Ok-None-clause-extent
 returns-in-Ok-None-clause-extent g c =
-    if_told (g.S.Source.left c.args.src.now) _ (λ text told. usage_read_text text _ (g.S.Source.left c.args.src.now) _ _ _ c.finish.ensures.ends)
+    let none : AskNothing (map (λ w. string_bytes w) c.args.words.now) = rw c.in-Ok-None.field-0-is at c.in-Ok-None.ensures.none in
+    λ opts run. absurd (none.no_run opts run)
 
 pub returns-in-Ok-None-clause-usage : goal.returns-in-Ok-None-clause-usage
 returns-in-Ok-None-clause-usage g c = λ e. rw c.in-Ok-None.field-0-is at c.in-Ok-None.ensures.none
@@ -25,78 +28,90 @@ pub returns-in-Ok-None-clause-no_command : goal.returns-in-Ok-None-clause-no_com
 returns-in-Ok-None-clause-no_command g c = λ none. ends_unread _ _ _ _ c.finish.ensures.ends
 
 pub returns-in-Ok-None-clause-read : goal.returns-in-Ok-None-clause-read
-returns-in-Ok-None-clause-read g c = usage_read _ (g.S.Source.left c.args.src.now) _ _ _ c.finish.ensures.ends
+returns-in-Ok-None-clause-read g c =
+    let none : AskNothing (map (λ w. string_bytes w) c.args.words.now) = rw c.in-Ok-None.field-0-is at c.in-Ok-None.ensures.none in
+    λ opts run. absurd (none.no_run opts run)
 
--- ---- a text that is too long
+pub returns-in-Ok-None-clause-unread : goal.returns-in-Ok-None-clause-unread
+returns-in-Ok-None-clause-unread g c = λ none. Keeps-refl (g.S.Source.left c.args.src.now)
 
-pub returns-in-Err-TooLong-clause-headline : goal.returns-in-Err-TooLong-clause-headline
-returns-in-Err-TooLong-clause-headline g c =
-    let asked : IsCommand (map (λ w. string_bytes w) c.args.words.now) c.in-Ok-Some.opts = (rw c.in-Ok-Some.field-0-is at c.in-Ok-Some.ensures.some).0 in
-    let taken : Takes (g.S.Source.left c.args.src.now) (g.S.Source.left c.read_text.new.src) (TEXT_LIMIT + 1) = c.in-Err-TooLong.ensures.too_long (ap (λ e. Err e) c.in-Err-TooLong.field-0-is) in
-    long_told (g.S.Source.left c.args.src.now) (g.S.Source.left c.read_text.new.src) (map (λ w. string_bytes w) c.args.words.now) c.in-Ok-Some.opts c.refuse.result _ _ _ _ _ _ _ asked taken c.refuse.ensures.ends
+-- ---- a run
 
-pub returns-in-Err-TooLong-clause-extent : goal.returns-in-Err-TooLong-clause-extent
-returns-in-Err-TooLong-clause-extent g c =
-    if_told (g.S.Source.left c.args.src.now) _ (λ text told.
-    let taken : Takes (g.S.Source.left c.args.src.now) (g.S.Source.left c.read_text.new.src) (TEXT_LIMIT + 1) = c.in-Err-TooLong.ensures.too_long (ap (λ e. Err e) c.in-Err-TooLong.field-0-is) in
-    let long : TEXT_LIMIT + 1 ≤ length text = read_some _ _ text (TEXT_LIMIT + 1) told taken in
-    let more : TEXT_LIMIT < length text = omega arith in
-    refusal_read_text text _ _ _ _ _ _ _ more taken c.refuse.ensures.ends)
+pub run_source-requires : goal.run_source-requires
+run_source-requires g c =
+    let asked : Asks (map (λ w. string_bytes w) c.args.words.now) (Run c.in-Run.opts) = rw (c.in-Ok-Some.field-0-is, c.in-Run.is) at c.in-Ok-Some.ensures.some in
+    asked.1
 
-pub returns-in-Err-TooLong-clause-usage : goal.returns-in-Err-TooLong-clause-usage
-returns-in-Err-TooLong-clause-usage g c = λ e. absurd (refusal_no_usage _ _ _ _ _ c.refuse.ensures.ends e)
+pub returns-in-Run-clause-headline : goal.returns-in-Run-clause-headline
+returns-in-Run-clause-headline g c =
+    let asked : Asks (map (λ w. string_bytes w) c.args.words.now) (Run c.in-Run.opts) = rw (c.in-Ok-Some.field-0-is, c.in-Run.is) at c.in-Ok-Some.ensures.some in
+    source_is_said (g.S.Source.left c.args.src.now) (map (λ w. string_bytes w) c.args.words.now) c.in-Run.opts c.run_source.result _ _ asked.0 c.run_source.ensures.writing
 
-pub returns-in-Err-TooLong-clause-no_command : goal.returns-in-Err-TooLong-clause-no_command
-returns-in-Err-TooLong-clause-no_command g c =
-    let asked : IsCommand (map (λ w. string_bytes w) c.args.words.now) c.in-Ok-Some.opts = (rw c.in-Ok-Some.field-0-is at c.in-Ok-Some.ensures.some).0 in
-    λ none. absurd (none c.in-Ok-Some.opts asked)
+pub returns-in-Run-clause-extent : goal.returns-in-Run-clause-extent
+returns-in-Run-clause-extent g c = λ opts run. c.run_source.ensures.extent
 
-pub returns-in-Err-TooLong-clause-read : goal.returns-in-Err-TooLong-clause-read
-returns-in-Err-TooLong-clause-read g c =
-    let taken : Takes (g.S.Source.left c.args.src.now) (g.S.Source.left c.read_text.new.src) (TEXT_LIMIT + 1) = c.in-Err-TooLong.ensures.too_long (ap (λ e. Err e) c.in-Err-TooLong.field-0-is) in
-    refusal_read _ _ _ _ _ _ _ taken c.refuse.ensures.ends
+pub returns-in-Run-clause-usage : goal.returns-in-Run-clause-usage
+returns-in-Run-clause-usage g c = λ e. absurd (c.run_source.ensures.command e)
 
--- ---- a text that was not read
+pub returns-in-Run-clause-no_command : goal.returns-in-Run-clause-no_command
+returns-in-Run-clause-no_command g c =
+    let asked : Asks (map (λ w. string_bytes w) c.args.words.now) (Run c.in-Run.opts) = rw (c.in-Ok-Some.field-0-is, c.in-Run.is) at c.in-Ok-Some.ensures.some in
+    λ none. absurd (none.no_run c.in-Run.opts asked.0)
 
-pub returns-in-Err-Failed-clause-no_command : goal.returns-in-Err-Failed-clause-no_command
-returns-in-Err-Failed-clause-no_command g c =
-    let asked : IsCommand (map (λ w. string_bytes w) c.args.words.now) c.in-Ok-Some.opts = (rw c.in-Ok-Some.field-0-is at c.in-Ok-Some.ensures.some).0 in
-    λ none. absurd (none c.in-Ok-Some.opts asked)
+pub returns-in-Run-clause-read : goal.returns-in-Run-clause-read
+returns-in-Run-clause-read g c = λ opts run. c.run_source.ensures.read
 
--- ---- a text that was read
+pub returns-in-Run-clause-unread : goal.returns-in-Run-clause-unread
+returns-in-Run-clause-unread g c =
+    let asked : Asks (map (λ w. string_bytes w) c.args.words.now) (Run c.in-Run.opts) = rw (c.in-Ok-Some.field-0-is, c.in-Run.is) at c.in-Ok-Some.ensures.some in
+    λ none. absurd (none c.in-Run.opts asked.0)
 
-pub returns-clause-headline : goal.returns-clause-headline
-returns-clause-headline g c =
-    let asked : IsCommand (map (λ w. string_bytes w) c.args.words.now) c.in-Ok-Some.opts = (rw c.in-Ok-Some.field-0-is at c.in-Ok-Some.ensures.some).0 in
-    answer_told (g.S.Source.left c.args.src.now) (g.S.Source.left c.read_text.new.src) (map (λ w. string_bytes w) c.args.words.now) c.in-Ok-Some.opts c.in-Ok.text.items _ c.answer.result _ _ asked c.in-Ok.ensures.text c.in-Ok.ensures.at_end c.deref.ensures.value c.answer.ensures
+-- ---- a load
 
-pub returns-clause-extent : goal.returns-clause-extent
-returns-clause-extent g c =
-    if_told (g.S.Source.left c.args.src.now) _ (λ text told.
-    let all : text ≡ c.in-Ok.text.items = read_all _ _ text c.in-Ok.text.items told c.in-Ok.ensures.text c.in-Ok.ensures.at_end in
-    let fits : length c.in-Ok.text.items ≤ TEXT_LIMIT = search rules in
-    let small : length text ≤ TEXT_LIMIT = rw all fits in
-    answer_read_text c.in-Ok-Some.opts _ c.answer.result _ _ text _ _ c.answer.ensures small c.in-Ok.ensures.at_end)
+pub load-requires-clause-small : goal.load-requires-clause-small
+load-requires-clause-small g c =
+    let asked : Asks (map (λ w. string_bytes w) c.args.words.now) (Load c.in-Load.asked) = rw (c.in-Ok-Some.field-0-is, c.in-Load.is) at c.in-Ok-Some.ensures.some in
+    asked.1
 
-pub returns-clause-usage : goal.returns-clause-usage
-returns-clause-usage g c = λ e. absurd (answer_no_usage c.in-Ok-Some.opts _ c.answer.result _ _ c.answer.ensures e)
+pub load-requires-clause-ranges : goal.load-requires-clause-ranges
+load-requires-clause-ranges g c =
+    let asked : Asks (map (λ w. string_bytes w) c.args.words.now) (Load c.in-Load.asked) = rw (c.in-Ok-Some.field-0-is, c.in-Load.is) at c.in-Ok-Some.ensures.some in
+    asked.2
 
-pub returns-clause-no_command : goal.returns-clause-no_command
-returns-clause-no_command g c =
-    let asked : IsCommand (map (λ w. string_bytes w) c.args.words.now) c.in-Ok-Some.opts = (rw c.in-Ok-Some.field-0-is at c.in-Ok-Some.ensures.some).0 in
-    λ none. absurd (none c.in-Ok-Some.opts asked)
+pub returns-in-Load-clause-headline : goal.returns-in-Load-clause-headline
+returns-in-Load-clause-headline g c =
+    let asked : Asks (map (λ w. string_bytes w) c.args.words.now) (Load c.in-Load.asked) = rw (c.in-Ok-Some.field-0-is, c.in-Load.is) at c.in-Ok-Some.ensures.some in
+    made_is_said (g.S.Source.left c.args.src.now) (map (λ w. string_bytes w) c.args.words.now) c.in-Load.asked.count c.in-Load.asked.opts c.load.result _ _ asked.0 c.load.ensures
 
-pub returns-clause-read : goal.returns-clause-read
-returns-clause-read g c = answer_read c.in-Ok-Some.opts _ c.answer.result _ _ _ _ c.answer.ensures c.in-Ok.ensures.at_end
+pub returns-in-Load-clause-extent : goal.returns-in-Load-clause-extent
+returns-in-Load-clause-extent g c =
+    let asked : Asks (map (λ w. string_bytes w) c.args.words.now) (Load c.in-Load.asked) = rw (c.in-Ok-Some.field-0-is, c.in-Load.is) at c.in-Ok-Some.ensures.some in
+    λ opts run. absurd (run_is_no_load (map (λ w. string_bytes w) c.args.words.now) opts c.in-Load.asked.count c.in-Load.asked.opts run asked.0)
 
-pub returns-clause-read_fault : goal.returns-clause-read_fault
-returns-clause-read_fault g c = λ e. absurd (c.answer.ensures.was_read e)
+pub returns-in-Load-clause-usage : goal.returns-in-Load-clause-usage
+returns-in-Load-clause-usage g c = λ e. absurd (load_no_usage c.in-Load.asked.count c.in-Load.asked.opts c.load.result _ _ c.load.ensures e)
 
-pub returns-clause-write_fault : goal.returns-clause-write_fault
-returns-clause-write_fault g c = c.answer.ensures.cause
+pub returns-in-Load-clause-no_command : goal.returns-in-Load-clause-no_command
+returns-in-Load-clause-no_command g c =
+    let asked : Asks (map (λ w. string_bytes w) c.args.words.now) (Load c.in-Load.asked) = rw (c.in-Ok-Some.field-0-is, c.in-Load.is) at c.in-Ok-Some.ensures.some in
+    λ none. absurd (none.no_load c.in-Load.asked.count c.in-Load.asked.opts asked.0)
 
-pub returns-clause-out_faults : goal.returns-clause-out_faults
-returns-clause-out_faults g c = c.answer.ensures.out_later
+pub returns-in-Load-clause-read : goal.returns-in-Load-clause-read
+returns-in-Load-clause-read g c =
+    let asked : Asks (map (λ w. string_bytes w) c.args.words.now) (Load c.in-Load.asked) = rw (c.in-Ok-Some.field-0-is, c.in-Load.is) at c.in-Ok-Some.ensures.some in
+    λ opts run. absurd (run_is_no_load (map (λ w. string_bytes w) c.args.words.now) opts c.in-Load.asked.count c.in-Load.asked.opts run asked.0)
 
-pub returns-clause-journal_faults : goal.returns-clause-journal_faults
-returns-clause-journal_faults g c = c.answer.ensures.journal_later
+pub returns-in-Load-clause-unread : goal.returns-in-Load-clause-unread
+returns-in-Load-clause-unread g c = λ none. Keeps-refl (g.S.Source.left c.args.src.now)
+
+pub returns-in-Load-clause-read_fault : goal.returns-in-Load-clause-read_fault
+returns-in-Load-clause-read_fault g c = λ e. absurd (c.load.ensures.nothing_read e)
+
+pub returns-in-Load-clause-write_fault : goal.returns-in-Load-clause-write_fault
+returns-in-Load-clause-write_fault g c = c.load.ensures.cause
+
+pub returns-in-Load-clause-out_faults : goal.returns-in-Load-clause-out_faults
+returns-in-Load-clause-out_faults g c = c.load.ensures.out_later
+
+pub returns-in-Load-clause-journal_faults : goal.returns-in-Load-clause-journal_faults
+returns-in-Load-clause-journal_faults g c = c.load.ensures.journal_later
