@@ -66,7 +66,7 @@ true-value : (f : Bool → Bool) (s t : Option Bool) → ((b : Bool) → s ≡ S
 true-value f None t g h = cc
 true-value f (Some b) t g h = ap (λ z. is_true (option_map f z)) (g b refl) ∙ h
 
-true-grows : (es : List Entry) (j : ℕ) (x : Lit) → j ≤ length es → is_true (value_in (take j es) x) ≡ true → is_true (value_in es x) ≡ true
+pub true-grows : (es : List Entry) (j : ℕ) (x : Lit) → j ≤ length es → is_true (value_in (take j es) x) ≡ true → is_true (value_in es x) ≡ true
 true-grows es j x o h =
     let all : take (length es) es ≡ es = take_all (length es) es (omega arith) in
     ap (λ z. is_true (value_in z x)) (sym all)

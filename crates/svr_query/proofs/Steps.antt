@@ -1,8 +1,9 @@
 -- Logs, one step at a time
-use Rattle.std.proofs.Common.{◌≡◌, ℕ, suc, arith, ◌+◌, ◌-◌, ◌*◌, ◌<◌, ◌≤◌, true, List, [], ◌∷◌, ◌++◌, length, ap, ◌∙◌, Some, Result, Ok, Err}
+use Rattle.std.proofs.Common.{◌≡◌, ℕ, suc, arith, ◌+◌, ◌-◌, ◌*◌, ◌<◌, ◌≤◌, true, List, [], ◌∷◌, ◌++◌, length, take, ap, sym, ◌∙◌, Some, Result, Ok, Err}
 use Rattle.std.specs.List.{list_all}
 use Rattle.std.proofs.Math.Nat.{suc-mul, mul-le-mul_right}
 use Rattle.std.proofs.lemmas.Bool.{cond-true}
+use Rattle.std.proofs.lemmas.List.{take-take}
 use Rattle.svr_chain.specs.declared.clause.Lit.{Lit}
 use Rattle.svr_chain.specs.Views.{StepView}
 use Rattle.svr_chain.specs.declared.log.Reason.{Reason}
@@ -33,6 +34,10 @@ pub accepted-goal : (ks : List (List Lit)) (assume : List Lit) (ss : List StepVi
 accepted-goal ks assume ss known g c e m d =
     ap (λ r. elim r [ Ok z ↦ goal_verdict z (length ss + 1) assume (Some g) | Err f ↦ Rejected f.0 f.1 ]) e
     ∙ cond-true _ _ _ (ap (is_denied assume) m ∙ d)
+
+-- what one list begins with, a longer one that begins with it does too
+pub begins-then : (n : ℕ) (xs ys zs : List StepView) → n ≤ length ys → take n ys ≡ xs → take (length ys) zs ≡ ys → take n zs ≡ xs
+begins-then n xs ys zs o e f = sym (take-take n (length ys) zs o) ∙ (ap (take n) f ∙ e)
 
 -- one step more leaves less to do, however short the trail is then
 pub one_step_more : (budget made vars len rest : ℕ) → made < budget → (budget - (made + 1)) * (vars + 1) + (vars - len) < (budget - made) * (vars + 1) + rest

@@ -1,6 +1,7 @@
 //! Questions to the search: satisfiability under assumptions, within a budget of steps.
 #![tactic(auto)]
 
+mod learn;
 mod limit;
 mod memory;
 mod model;

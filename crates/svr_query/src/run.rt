@@ -1,12 +1,13 @@
 // The loop of the search: propagate, decide, learn.
 
-ghost use Rattle.std.specs.Prelude.{◌≡◌, ◌+◌, ◌≤◌, ◌<◌, ℕ, true, false, [], IfOk, IfSome, IfNone, IsSome, None, List, length, take};
+ghost use Rattle.std.specs.Prelude.{◌≡◌, ◌+◌, ◌≤◌, ◌<◌, ◌⊎◌, ℕ, true, false, [], IfOk, IfSome, IfNone, IsSome, None, List, length, take};
 ghost use Rattle.svr_chain.specs.declared.clause.Lit.{Lit};
 ghost use Rattle.svr_chain.specs.Clauses.{AreWithin, IsWithin, is_tautology};
 ghost use Rattle.svr_trail.specs.Trail.{sign_at, value_in};
-ghost use Rattle.svr_query.specs.Found.{IsAssumed, IsFound};
-ghost use Rattle.svr_query.specs.Logged.{IsLogged};
+ghost use Rattle.svr_query.specs.Found.{AreSeen, IsAssumed, IsFound};
+ghost use Rattle.svr_query.specs.Logged.{IsLogged, are_true};
 
+use crate::learn::learn_from;
 use crate::memory::NoMemory;
 use crate::order::Order;
 use crate::propagate::propagate;
@@ -31,18 +32,71 @@ pub enum Found {
     Spent,
 }
 
+/// The first `lits` assumed literals are true by the first `entries` entries of the trail.
+#[derive(Clone, Copy, Debug)]
+pub struct Seen {
+    pub lits: usize,
+    pub entries: usize,
+}
+
+/// What is still known of the assumed literals where so many entries are kept.
+fn still_seen(seen: Seen, kept: usize) -> Seen
+    ensures within { result.entries ≤ kept }
+    ensures same { (result ≡ seen) ⊎ (result.lits ≡ 0) }
+{
+    if seen.entries > kept {
+        return Seen {
+            lits: 0,
+            entries: 0,
+        };
+    }
+    seen
+}
+
+/// Goes on behind the first `seen` assumed literals, which are true, to the first one that is not.
+fn go_on(search: &Search, assume: &[Lit], seen: &mut usize) -> Assumed
+    requires { are_true search.now.entries (take seen.old assume.now) ≡ true }
+    ensures seen { are_true search.now.entries (take seen.new assume.now) ≡ true }
+    ensures next { IsAssumed search.now.entries assume.now result }
+{
+    'assumed: while *seen < assume.len() {
+        let lit = assume[*seen];
+        match search.value(lit) {
+            None => return Assumed::Decide(lit),
+            Some(false) => return Assumed::Denied(lit),
+            Some(true) => {}
+        }
+        *seen += 1;
+    }
+    Assumed::Done
+}
+
+/// Whether so many assumed literals are all of them.
+fn are_all(assume: &[Lit], lits: usize) -> bool
+    ensures { result ≡ true → length assume.now ≤ lits }
+{
+    lits >= assume.len()
+}
+
+/// The first assumed literal that is not true. Those that are known to be are not looked at again, and where all are, what they are true by stays the same.
+fn next_unseen(search: &Search, assume: &[Lit], seen: &mut Seen) -> Assumed
+    requires { AreSeen search.now.entries assume.now seen.old }
+    ensures seen { AreSeen search.now.entries assume.now seen.new }
+    ensures next { IsAssumed search.now.entries assume.now result }
+{
+    if are_all(assume, seen.lits) {
+        return Assumed::Done;
+    }
+    seen.entries = search.entries().len();
+    go_on(search, assume, &mut seen.lits)
+}
+
 /// The first assumed literal that is not true.
 pub fn next_assumed(search: &Search, assume: &[Lit]) -> Assumed
     ensures { IsAssumed search.now.entries assume.now result }
 {
-    for lit in assume {
-        match search.value(*lit) {
-            None => return Assumed::Decide(*lit),
-            Some(false) => return Assumed::Denied(*lit),
-            Some(true) => {}
-        }
-    }
-    Assumed::Done
+    let mut seen = 0;
+    go_on(search, assume, &mut seen)
 }
 
 /// The open variable with the lowest number, with its preferred sign, if one of those with preferences is open.
@@ -112,6 +166,10 @@ pub fn run(
 {
     let mut order = Order::new(alloc, prefer)?;
     let mut restarts = Restarts::new();
+    let mut seen = Seen {
+        lits: 0,
+        entries: 0,
+    };
     restart(search);
     let _ = search.level();
     let mut made = 0;
@@ -122,19 +180,16 @@ pub fn run(
                     let explained = search.explain(number, None)?;
                     return Ok(Found::Refuted(explained));
                 }
-                order.save(search.entries());
-                let learned = search.analyse(number)?;
-                order.bump(&learned)?;
-                search.backjump(learned.level);
-                steps.reserve(1)?;
-                search.learn(learned.lits)?;
-                steps.push_reserved(learned.step);
+                let kept = learn_from(cnf, search, steps, &mut order, number)?;
+                seen = still_seen(seen, kept);
                 made += 1;
                 if restarts.is_due() {
+                    order.put_first_back(search.entries(), kept, search.level());
                     restart(search);
+                    seen = still_seen(seen, search.entries().len());
                 }
             }
-            None => match next_assumed(search, assume) {
+            None => match next_unseen(search, assume, &mut seen) {
                 Assumed::Decide(lit) => {
                     search.decide(lit);
                     let _ = search.level();
