@@ -1,6 +1,8 @@
 -- What the end of the pass over the soft roots says of the items that the clauses encode.
 use Rattle.std.proofs.Common.{◌≡◌, ◌<◌, ◌≤◌, ◌+◌, ◌^◌, ℕ, Bool, List, [], ◌∷◌, ◌++◌, map, length, Some, refl, sym, ap, ◌∙◌, subst, arith, append-nil}
+use Rattle.std.specs.List.{All}
 use Rattle.std.proofs.lemmas.List.{take_all}
+use Rattle.std.proofs.lemmas.List.Elements.{All-nil, All-cons}
 use Rattle.svr_chain.specs.declared.clause.Lit.{Lit}
 use Rattle.svr_chain.specs.declared.clause.Cnf.{Cnf}
 use Rattle.svr_chain.specs.Views.{RefutationView}
@@ -40,6 +42,14 @@ ranks_of_proofs : (place : ℕ) (base soft : List Lit) (kept : List ℕ) (ds : L
 ranks_of_proofs place base soft kept [] = refl
 ranks_of_proofs place base soft kept (d ∷ ds) = λ i. rank_of d ∷ ranks_of_proofs place base soft kept ds i
 
+-- the proof of a dropped item names the encoding at this place
+abbrev IsPlaced : ℕ → Dropped → Type 0
+IsPlaced place d = d.proof.encoding ≡ place
+
+placed_all : (place : ℕ) (base soft : List Lit) (kept : List ℕ) (ds : List (ℕ × RefutationView)) → All (IsPlaced place) (map (dropped_at place base soft kept) ds)
+placed_all place base soft kept [] = All-nil (IsPlaced place)
+placed_all place base soft kept (d ∷ ds) = All-cons (IsPlaced place) (dropped_at place base soft kept d) (map (dropped_at place base soft kept) ds) refl (placed_all place base soft kept ds)
+
 module _ (f : FrameTerm) (sizes : List ℕ) (sound : IsSound f) (fit : SizesFit f sizes) (chosen : List (ℕ × ℕ)) (cyclic : AreCyclicValues f chosen) (place budget : ℕ) (e : Encoded) (encodes : EncodesCall f sizes e)
     (bits : ℕ) (count : bits ≡ bit_count f Whole sizes 1) where
   abbrev hard : List Occurrence
@@ -72,6 +82,7 @@ module _ (f : FrameTerm) (sizes : List ℕ) (sound : IsSound f) (fit : SizesFit 
         kept = by.same ∙ sym by.ranks;
         dropped = ap (map (λ (d : Dropped). d.rank)) by.proofs ∙ ranks_of_proofs place base soft kept dropped ∙ dropped_are e.cnf.clauses.items base soft (length soft) kept dropped fates drops by.long by.ranks;
         proved = subst (λ (ds : List Dropped). AreProved f sizes chosen fates place e ds) (sym by.proofs) (dropped_stand f sizes sound fit e encodes chosen cyclic place kept fates dropped by.long by.ranks drops);
+        places = subst (λ (ds : List Dropped). All (IsPlaced place) ds) (sym by.proofs) (placed_all place base soft kept dropped);
         long = ap length by.found ∙ long;
         model = subst (λ (vs : List Bool). IsModel e.cnf.clauses.items (base ++ kept_lits fates soft) vs) (sym by.found) (subst (λ (ls : List Lit). IsModel e.cnf.clauses.items ls values) literals model);
       }

@@ -1,5 +1,6 @@
 -- How the question for the values of a call ends
 use Rattle.std.specs.Prelude.{◌≡◌, ℕ, ◌-◌, ◌≤◌, ⊤, Bool, List, [], ◌∷◌, ◌++◌, Option, None, Some, map, length, take, slice_get}
+use Rattle.std.specs.List as list
 use Rattle.svr_chain.specs.declared.clause.Lit.{Lit}
 use Rattle.svr_query.specs.Answer.{IsModel}
 use Rattle.svr_frame.specs.declared.part.Part.TheVariants.{All}
@@ -37,12 +38,13 @@ AreProved f sizes chosen fates place e [] = Unit {0}
 AreProved f sizes chosen fates place e (d ∷ ds) =
     ((encodings : List Encoded) → IsNamed place e encodings → StandsForDrop f sizes chosen fates d.rank encodings d.proof) × AreProved f sizes chosen fates place e ds
 
--- Each soft item has its fate, each dropped one its proof, and the values meet the clauses, the hard items and the kept ones.
+-- Each soft item has its fate, each dropped one its proof, all over the encoding at this place, and the values meet the clauses, the hard items and the kept ones.
 pub record IsMet (f : FrameTerm) (sizes : List ℕ) (chosen : List (ℕ × ℕ)) (place : ℕ) (e : Encoded) (m : Met) : Type 0 where
   pub keeps : Keeps (CanMeet f sizes chosen) (hard_of f All sizes) (live_of f All sizes) m.fates.items
   pub kept : m.kept ≡ kept_ranks 1 m.fates.items
   pub dropped : map (λ (d : Dropped). d.rank) m.dropped ≡ dropped_ranks 1 m.fates.items
   pub proved : AreProved f sizes chosen m.fates.items place e m.dropped
+  pub places : list.All (λ (d : Dropped). d.proof.encoding ≡ place) m.dropped
   pub long : length m.values.items ≡ e.cnf.vars
   pub model : IsModel e.cnf.clauses.items (kept_literals f sizes chosen m.fates.items e) m.values.items
 

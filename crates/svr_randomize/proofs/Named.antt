@@ -1,5 +1,5 @@
--- What names an encoding of a list names it in a longer one.
-use Rattle.std.proofs.Common.{◌≡◌, ℕ, zero, suc, refl, List, [], ◌∷◌, ◌++◌, length, Option, None, Some}
+-- What names an encoding of a list names it in a longer one, and where it stands alone.
+use Rattle.std.proofs.Common.{◌≡◌, ℕ, zero, suc, refl, subst, List, [], ◌∷◌, ◌++◌, length, Some}
 use Rattle.std.specs.Prelude.{slice_get}
 use Rattle.svr_chain.specs.declared.clause.Lit.{Lit}
 use Rattle.svr_frame.specs.declared.part.Part.{Part}
@@ -9,8 +9,11 @@ use Rattle.svr_encoded.specs.declared.encoded.Encoded.{Encoded}
 use Rattle.svr_phase.specs.declared.proof.Proof.{Proof}
 use Rattle.svr_phase.specs.declared.proof.ProofReason.{ProofReason}
 use Rattle.svr_phase.specs.declared.proof.Renewed.{Renewed}
-use Rattle.svr_phase.specs.Proof.{Stands, ProveValues}
+use Rattle.svr_phase.specs.Spent.{IsRefutation, EncodesItems}
+use Rattle.svr_phase.specs.Proof.{Stands, StandsForHard, ProveValues, fixed_lits, hard_roots}
 use Rattle.svr_phase.specs.Ends.{Call, Renewal, CyclesAreProved}
+use Rattle.svr_question.specs.Ends.{IsNamed}
+use Rattle.svr_randomize.specs.Placed.{at_first}
 
 got_front : {A : Type 0} (xs ys : List A) (k : ℕ) (x : A) → slice_get xs k ≡ Some x → slice_get (xs ++ ys) k ≡ Some x
 got_front [] ys k x h = absurd (cc)
@@ -48,3 +51,38 @@ cycles_longer c es more [] [] h = tt
 cycles_longer c es more [] (r ∷ rs) h = absurd h
 cycles_longer c es more (x ∷ xs) [] h = absurd h
 cycles_longer c es more (x ∷ xs) (r ∷ rs) h = (h.0, values_longer c.frame es more _ _ _ _ _ h.1, cycles_longer c es more xs rs h.2)
+
+-- ---- where it stands alone
+
+-- one more than n copies
+abbrev copies : ℕ → Encoded → List Encoded
+copies zero e = e ∷ []
+copies (suc n) e = e ∷ copies n e
+
+last_copy : (n : ℕ) (e : Encoded) → slice_get (copies n e) n ≡ Some e
+last_copy zero e = refl
+last_copy (suc n) e = last_copy n e
+
+each_copy : (n : ℕ) (e : Encoded) (k : ℕ) (x : Encoded) → slice_get (copies n e) k ≡ Some x → x ≡ e
+each_copy zero e zero x got = cc
+each_copy zero e (suc k) x got = absurd (cc)
+each_copy (suc n) e zero x got = cc
+each_copy (suc n) e (suc k) x got = each_copy n e k x got
+
+-- whichever of the copies is named, the proof stands over one of them
+stands_alone : (f : FrameTerm) (part : Part) (sizes : List ℕ) (k : ℕ) (fixed : List (ℕ × ℕ)) (hard soft : List Occurrence) (also : Encoded → List Lit) (n : ℕ) (e : Encoded) (p : Proof)
+    → Stands f part sizes k fixed hard soft also (copies n e) p → Stands f part sizes k fixed hard soft also (e ∷ []) (at_first p)
+stands_alone f part sizes k fixed hard soft also n e p h =
+    let same : h.encoding ≡ e = each_copy n e p.encoding h.encoding h.named in
+    record {
+      encoding = e;
+      named = refl;
+      encodes = subst (λ (x : Encoded). EncodesItems f part sizes k (hard ++ soft) x) same h.encodes;
+      assumes = subst (λ (x : Encoded). p.assume ≡ fixed_lits x fixed ++ hard_roots x hard ++ also x) same h.assumes;
+      refutes = subst (λ (x : Encoded). IsRefutation x.cnf.clauses.items p.assume p.refutation) same h.refutes;
+    }
+
+pub hard_alone : (f : FrameTerm) (sizes : List ℕ) (chosen : List (ℕ × ℕ)) (n : ℕ) (e : Encoded) (p : Proof) → ((es : List Encoded) → IsNamed n e es → StandsForHard f sizes chosen es p) → StandsForHard f sizes chosen (e ∷ []) (at_first p)
+hard_alone f sizes chosen n e p h =
+    let stands = h (copies n e) (last_copy n e) in
+    (stands.0, stands.1, stands_alone f _ _ _ _ _ _ _ n e p stands.2)

@@ -16,6 +16,7 @@ use Rattle.svr_phase.specs.Spent.{closed_at}
 use Rattle.svr_phase.specs.Sizes.{chooses_sizes}
 use Rattle.svr_phase.specs.Ends.{Call, PassesCyclic, HasSizes, IsLight}
 use Rattle.svr_call.specs.Call.{Steps, ReachesValues, AsksValues, preferred}
+use Rattle.svr_budget_laws.specs.Bounds.{HasFewEncodings, NameOneAPhase}
 use Rattle.svr_solution.specs.Calls.{call_in}
 use Rattle.svr_cyclic.specs.declared.choose.Chosen.{Chosen}
 use Rattle.svr_cyclic.specs.Ends.{IsChosen}
@@ -30,9 +31,12 @@ abbrev pub changed : WorldTerm → ℕ → Option Change → WorldTerm
 changed w o None = w
 changed w o (Some change) = with_change w o change
 
--- in each world the answer with its change is the step of the call
-abbrev pub IsAnswer : Call → Answer → Type 0
-IsAnswer c r = (w : WorldTerm) (o : ℕ) → Steps w o c r.outcome (changed w o r.change)
+-- the answer of the call with its change
+pub record IsAnswer (c : Call) (r : Answer) : Type 0 where
+  -- in each world it is the step of the call
+  pub steps : (w : WorldTerm) (o : ℕ) → Steps w o c r.outcome (changed w o r.change)
+  pub few : HasFewEncodings r.outcome
+  pub shared : NameOneAPhase r.outcome
 
 -- closed expressions for the hard and the live soft items of the last phase
 pub record AreItems (f : FrameTerm) (sizes : List ℕ) (x : Expansion) : Type 0 where

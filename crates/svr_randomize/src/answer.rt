@@ -7,6 +7,7 @@ ghost use Rattle.svr_frame.specs.declared.part.Part.TheVariants.{Randc, Sizes, A
 ghost use Rattle.svr_frame.specs.Frame.{frame_term};
 ghost use Rattle.svr_call.specs.declared.outcome.Outcome.TheVariants.{One, Zero, GaveUp, TooHeavy, SizeCap};
 ghost use Rattle.svr_call.specs.Call.{numbers_read, random_props};
+ghost use Rattle.svr_randomize.specs.Placed.{at_first};
 
 use crate::memory::NoMemory;
 use sqlite_items::Items;
@@ -115,19 +116,18 @@ struct Carried<P, E> {
     encodings: Items<E>,
 }
 
-/// One proof, whose encoding stands behind others.
+/// One proof over one encoding.
 fn one_proof<P: Drop, E: Drop>(
     alloc: Global,
     sizes: &[u32],
     proof: P,
-    others: Items<E>,
     encoding: E,
 ) -> Result<Carried<P, E>, NoMemory>
     ensures sizes { IfOk result (λ r. r.sizes ≡ sizes.now) }
     ensures proofs { IfOk result (λ r. r.proofs ≡ proof ∷ []) }
-    ensures encodings { IfOk result (λ r. r.encodings ≡ others ++ encoding ∷ []) }
+    ensures encodings { IfOk result (λ r. r.encodings ≡ encoding ∷ []) }
 {
-    let encodings = with_one_more(others, encoding)?;
+    let encodings = alone(alloc, encoding)?;
     let sizes = Items::from_slice(alloc, sizes)?;
     let proofs = alone(alloc, proof)?;
     Ok(Carried {
@@ -170,7 +170,7 @@ pub(crate) fn no_sizes(
         used: _used,
         encodings: _encodings,
     } = chosen;
-    let carried = one_proof(alloc, &[], proof, Items::new(alloc), encoding)?;
+    let carried = one_proof(alloc, &[], proof, encoding)?;
     Ok(unchanged(Outcome::Zero {
         phase: Part::Sizes,
         chosen: values,
@@ -189,12 +189,30 @@ pub(crate) fn beyond_cap(
 ) -> Result<Answer, NoMemory>
     ensures { IfOk result (λ r. r ≡ record { outcome = SizeCap sizes (proof ∷ []) (encoding ∷ []); change = None }) }
 {
-    let carried = one_proof(alloc, &[], proof, Items::new(alloc), encoding)?;
+    let carried = one_proof(alloc, &[], proof, encoding)?;
     Ok(unchanged(Outcome::SizeCap {
         sizes,
         proofs: carried.proofs,
         encodings: carried.encodings,
     }))
+}
+
+/// The proof over an encoding that stands alone.
+fn over_the_only(proof: Proof) -> Proof
+    ensures { result ≡ at_first proof }
+{
+    let Proof {
+        encoding: _place,
+        assume,
+        refutation,
+        reason,
+    } = proof;
+    Proof {
+        encoding: 0,
+        assume,
+        refutation,
+        reason,
+    }
 }
 
 /// 0: the hard items cannot be met at these sizes.
@@ -205,15 +223,15 @@ pub(crate) fn no_values(
     proof: Proof,
     encoding: Encoded,
 ) -> Result<Answer, NoMemory>
-    ensures { IfOk result (λ r. r ≡ record { outcome = Zero Whole chosen.values sizes.now (proof ∷ []) (chosen.encodings ++ encoding ∷ []); change = None }) }
+    ensures { IfOk result (λ r. r ≡ record { outcome = Zero Whole chosen.values sizes.now (at_first proof ∷ []) (encoding ∷ []); change = None }) }
 {
     let Chosen {
         values,
         cycles: _cycles,
         used: _used,
-        encodings,
+        encodings: _encodings,
     } = chosen;
-    let carried = one_proof(alloc, sizes, proof, encodings, encoding)?;
+    let carried = one_proof(alloc, sizes, over_the_only(proof), encoding)?;
     Ok(unchanged(Outcome::Zero {
         phase: Part::All,
         chosen: values,

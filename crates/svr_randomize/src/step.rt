@@ -6,6 +6,8 @@ ghost use Rattle.svr_world.specs.Fits.{FitsClass};
 ghost use Rattle.svr_frame.specs.Frame.{frame_term};
 ghost use Rattle.svr_frame.specs.Sound.{IsSound};
 ghost use Rattle.svr_call.specs.Call.{CallStep};
+ghost use Rattle.svr_budget_laws.specs.Budget.{GivesUpOverMany};
+ghost use Rattle.svr_budget_laws.specs.Bounds.{HasFewEncodings, NameOneAPhase};
 ghost use Rattle.svr_randomize.specs.Answers.{changed, CanBeWritten};
 
 use crate::answer::Answer;
@@ -43,6 +45,10 @@ pub fn randomize(
     requires cap { opts.size_cap ≤ 2048 }
     requires made { IsMade world.old object }
     ensures step { IfOk result (λ outcome. CallStep world.old object (frame_term frame.now) number opts outcome world.new) }
+    // A question is given up only over many bits, and there is no more than one encoding for each phase.
+    ensures bits { IfOk result (GivesUpOverMany (frame_term frame.now) opts) }
+    ensures few { IfOk result HasFewEncodings }
+    ensures shared { IfOk result NameOneAPhase }
     ensures fits { OnOk result (FitsClass (frame_term frame.now).class (object_of world.old object) → FitsClass (frame_term frame.now).class (object_of world.new object)) }
     ensures failed { OnErr result (world.new ≡ world.old) }
 {

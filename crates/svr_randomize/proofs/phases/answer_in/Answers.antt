@@ -52,7 +52,7 @@ pub returns-in-None-clause-answer : goal.returns-in-None-clause-answer
 returns-in-None-clause-answer c =
     let call = call_of c.args.world.now c.args.object (frame_term c.args.frame.now) c.args.number c.args.opts in
     let ended = subst (CyclicEnds call) c.in-None.is c.in_ok-end.ensures.ends in
-    none_cyclic call c.in-None.chosen c.in-None.proofs c.in-None.encodings ended.0 c.no_cyclic_value.result c.no_cyclic_value.ensures
+    none_cyclic call c.in-None.chosen c.in-None.proofs c.in-None.encodings ended.0 ended.1 c.no_cyclic_value.result c.no_cyclic_value.ensures
 
 pub returns-in-None-clause-fits : goal.returns-in-None-clause-fits
 returns-in-None-clause-fits c = subst (λ (x : Answer). FitsIfChanged (frame_term c.args.frame.now).class x.change) (sym c.no_cyclic_value.ensures) tt

@@ -1,0 +1,3 @@
+pub mod Budget
+pub mod Questions
+pub mod Bounds
