@@ -1,13 +1,9 @@
--- Parts of a text as the code holds them.
+-- Parts of what is printed as the code holds them.
 use Rattle.std.specs.Prelude.{ℕ, Bool, true, false, List, [], ◌∷◌, map, slice_index_or}
-use denote.Ref.{Bor}
 use Rattle.svr_typed.specs.declared.class.NumType.{NumType}
 use Rattle.svr_typed.specs.declared.class.Prop.{Prop}
 use Rattle.svr_frame.specs.Frame.{FrameTerm}
 use Rattle.svr_script.specs.Printed.{no_type}
-
-abbrev pub seen : List (Bor (List ℕ)) → List (List ℕ)
-seen parts = map (λ p. p.now) parts
 
 abbrev pub none_left : List ℕ → Bool
 none_left [] = true

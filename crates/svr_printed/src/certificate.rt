@@ -1,60 +1,84 @@
 // The proofs that an answer carries, and the log of a question that was given up.
 
-ghost use Rattle.std.specs.Prelude.{◌≡◌, flat_map, IfOk};
+ghost use Rattle.std.specs.Prelude.{◌≡◌, ◌++◌, flat_map};
 ghost use Rattle.svr_frame.specs.Frame.{frame_term};
 ghost use Rattle.svr_phase.specs.declared.proof.Renewed.{Renewed};
 ghost use Rattle.svr_call.specs.declared.outcome.Dropped.{Dropped};
+ghost use Rattle.svr_stream.specs.Puts.{Puts, place};
 ghost use Rattle.svr_script.specs.ProofText as spec;
 
-use crate::memory::NoMemory;
-use crate::parts::both;
-use crate::proof::{log_text, proof_text, proofs_text};
-use std::alloc::Global;
+use crate::proof::{put_log, put_proof, put_proofs};
 use svr_call::{Dropped, Outcome};
+use svr_edge::Sink;
 use svr_encoded::Encoded;
 use svr_frame::Frame;
 use svr_phase::Renewed;
+use svr_stream::Pending;
 
-#[tactic(auto, using(crate::proofs::Rows::mapped_more))]
-fn cycle_proofs(
-    alloc: Global,
+/// The proofs of a new cycle.
+fn put_renewed<K: Sink>(
+    text: &mut Pending,
+    out: &mut K,
+    frame: &Frame,
+    encodings: &[Encoded],
+    renewed: &Renewed,
+)
+    ensures { Puts (place (K.written out.old) (K.faults out.old) text.old) (place (K.written out.new) (K.faults out.new) text.new)
+        (spec.proofs_text (frame_term frame.now) encodings.now renewed.now.proofs) }
+{
+    put_proofs(text, out, frame, encodings, renewed.proofs.as_slice());
+}
+
+fn put_cycle_proofs<K: Sink>(
+    text: &mut Pending,
+    out: &mut K,
     frame: &Frame,
     encodings: &[Encoded],
     cycles: &[Renewed],
-) -> Result<Vec<u8>, NoMemory>
-    ensures { IfOk result (λ v. v.items ≡ flat_map (λ (r : Renewed). spec.proofs_text (frame_term frame.now) encodings.now r.proofs) cycles.now) }
+)
+    ensures { Puts (place (K.written out.old) (K.faults out.old) text.old) (place (K.written out.new) (K.faults out.new) text.new)
+        (flat_map (λ (r : Renewed). spec.proofs_text (frame_term frame.now) encodings.now r.proofs) cycles.now) }
 {
-    let mut text = Vec::new(alloc);
-    let mut left = cycles;
-    while let [renewed, others @ ..] = left {
-        let proofs = renewed.proofs.as_slice();
-        text.extend_from_slice(&proofs_text(alloc, frame, encodings, proofs)?)?;
-        left = others;
+    for renewed in cycles {
+        put_renewed(text, out, frame, encodings, renewed);
     }
-    Ok(text)
 }
 
-#[tactic(auto, using(crate::proofs::Rows::mapped_more))]
-fn drop_proofs(
-    alloc: Global,
+fn put_drop_proofs<K: Sink>(
+    text: &mut Pending,
+    out: &mut K,
     frame: &Frame,
     encodings: &[Encoded],
     dropped: &[Dropped],
-) -> Result<Vec<u8>, NoMemory>
-    ensures { IfOk result (λ v. v.items ≡ flat_map (λ (d : Dropped). spec.proof_text (frame_term frame.now) encodings.now d.proof) dropped.now) }
+)
+    ensures { Puts (place (K.written out.old) (K.faults out.old) text.old) (place (K.written out.new) (K.faults out.new) text.new)
+        (flat_map (λ (d : Dropped). spec.proof_text (frame_term frame.now) encodings.now d.proof) dropped.now) }
 {
-    let mut text = Vec::new(alloc);
-    let mut left = dropped;
-    while let [one, others @ ..] = left {
-        text.extend_from_slice(&proof_text(alloc, frame, encodings, &one.proof)?)?;
-        left = others;
+    for one in dropped {
+        put_proof(text, out, frame, encodings, &one.proof);
     }
-    Ok(text)
 }
 
-/// The proofs of an answer: of new cycles, of a 0 or of the cap, of dropped items; and the log of a question that was given up.
-pub fn certificates_of(alloc: Global, frame: &Frame, outcome: &Outcome) -> Result<Vec<u8>, NoMemory>
-    ensures { IfOk result (λ v. v.items ≡ spec.certificates_of (frame_term frame.now) outcome.now) }
+/// The proofs of an answer 1.
+fn put_proofs_of_one<K: Sink>(
+    text: &mut Pending,
+    out: &mut K,
+    frame: &Frame,
+    encodings: &[Encoded],
+    cycles: &[Renewed],
+    dropped: &[Dropped],
+)
+    ensures { Puts (place (K.written out.old) (K.faults out.old) text.old) (place (K.written out.new) (K.faults out.new) text.new)
+        (flat_map (λ (r : Renewed). spec.proofs_text (frame_term frame.now) encodings.now r.proofs) cycles.now ++ flat_map (λ (d : Dropped). spec.proof_text (frame_term frame.now) encodings.now d.proof) dropped.now) }
+{
+    put_cycle_proofs(text, out, frame, encodings, cycles);
+    put_drop_proofs(text, out, frame, encodings, dropped);
+}
+
+/// Puts the proofs of an answer: of new cycles, of a 0 or of the cap, of dropped items; and the log of a question that was given up.
+pub fn put_certificates<K: Sink>(text: &mut Pending, out: &mut K, frame: &Frame, outcome: &Outcome)
+    ensures { Puts (place (K.written out.old) (K.faults out.old) text.old) (place (K.written out.new) (K.faults out.new) text.new)
+        (spec.certificates_of (frame_term frame.now) outcome.now) }
 {
     match outcome {
         Outcome::One {
@@ -62,30 +86,33 @@ pub fn certificates_of(alloc: Global, frame: &Frame, outcome: &Outcome) -> Resul
             cycles,
             encodings,
             ..
-        } => {
-            let over = encodings.as_slice();
-            let cycles = cycle_proofs(alloc, frame, over, cycles.as_slice())?;
-            let drops = drop_proofs(alloc, frame, over, dropped.as_slice())?;
-            both(alloc, &cycles, &drops)
-        }
+        } => put_proofs_of_one(
+            text,
+            out,
+            frame,
+            encodings.as_slice(),
+            cycles.as_slice(),
+            dropped.as_slice(),
+        ),
         Outcome::Zero {
             proofs,
             encodings,
             ..
-        } => proofs_text(alloc, frame, encodings.as_slice(), proofs.as_slice()),
-        Outcome::GaveUp { .. } => logs_of(alloc, frame, outcome),
-        Outcome::TooHeavy { .. } => Ok(Vec::new(alloc)),
+        } => put_proofs(text, out, frame, encodings.as_slice(), proofs.as_slice()),
+        Outcome::GaveUp { .. } => put_logs(text, out, frame, outcome),
+        Outcome::TooHeavy { .. } => {}
         Outcome::SizeCap {
             proofs,
             encodings,
             ..
-        } => proofs_text(alloc, frame, encodings.as_slice(), proofs.as_slice()),
+        } => put_proofs(text, out, frame, encodings.as_slice(), proofs.as_slice()),
     }
 }
 
-/// The log of a question that was given up alone.
-pub fn logs_of(alloc: Global, frame: &Frame, outcome: &Outcome) -> Result<Vec<u8>, NoMemory>
-    ensures { IfOk result (λ v. v.items ≡ spec.logs_of (frame_term frame.now) outcome.now) }
+/// Puts the log of a question that was given up alone.
+pub fn put_logs<K: Sink>(text: &mut Pending, out: &mut K, frame: &Frame, outcome: &Outcome)
+    ensures { Puts (place (K.written out.old) (K.faults out.old) text.old) (place (K.written out.new) (K.faults out.new) text.new)
+        (spec.logs_of (frame_term frame.now) outcome.now) }
 {
     match outcome {
         Outcome::GaveUp {
@@ -93,10 +120,10 @@ pub fn logs_of(alloc: Global, frame: &Frame, outcome: &Outcome) -> Result<Vec<u8
             encoding,
             log,
             first,
-        } => log_text(alloc, frame, *query, encoding, log, *first),
-        Outcome::One { .. } => Ok(Vec::new(alloc)),
-        Outcome::Zero { .. } => Ok(Vec::new(alloc)),
-        Outcome::TooHeavy { .. } => Ok(Vec::new(alloc)),
-        Outcome::SizeCap { .. } => Ok(Vec::new(alloc)),
+        } => put_log(text, out, frame, *query, encoding, log, *first),
+        Outcome::One { .. } => {}
+        Outcome::Zero { .. } => {}
+        Outcome::TooHeavy { .. } => {}
+        Outcome::SizeCap { .. } => {}
     }
 }

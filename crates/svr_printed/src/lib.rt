@@ -1,17 +1,14 @@
 //! The text of what a call tells: its line, and the proofs that its answer carries.
 //!
-//! It is `line_of`, `certificates_of` and `logs_of` of `svr_script`, byte by byte, whatever the frame and the answer.
+//! It is `line_of`, `certificates_of` and `logs_of` of `svr_script`, byte by byte, whatever the frame and the answer. It goes to a sink piece by piece, so that no part of it stands in memory as a whole, and nothing is allocated.
 #![tactic(auto)]
 
 mod certificate;
 mod line;
-mod memory;
 mod names;
 mod numbers;
-mod parts;
 mod proof;
 mod values;
 
-pub use certificate::{certificates_of, logs_of};
-pub use line::line_of;
-pub use memory::NoMemory;
+pub use certificate::{put_certificates, put_logs};
+pub use line::put_line;

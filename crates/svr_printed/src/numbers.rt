@@ -1,15 +1,14 @@
 // Numbers as values of a type.
 
-ghost use Rattle.std.specs.Prelude.{◌≡◌, ◌≤◌, ◌<◌, ◌-◌, ◌^◌, IfOk};
+ghost use Rattle.std.specs.Prelude.{◌≡◌, ◌≤◌, ◌<◌, ◌-◌, ◌^◌};
 ghost use Rattle.std.specs.Fmt.{signed_decimal};
 ghost use Rattle.svr_num.specs.Num.{read_of, signed_of};
+ghost use Rattle.svr_stream.specs.Puts.{Puts, place};
 ghost use Rattle.svr_script.specs.Printed as spec;
 
-use crate::memory::NoMemory;
 use crate::names::member_name;
-use crate::parts::copied;
-use itoa::Buffer;
-use std::alloc::Global;
+use svr_edge::Sink;
+use svr_stream::Pending;
 use svr_typed::{EnumType, NumType};
 
 /// How many numbers have `width` bits.
@@ -52,31 +51,39 @@ fn signed_of(value: u64, width: u8) -> i128
     -1
 }
 
-/// A number in decimal, with its sign where the type has one.
-fn number_text(alloc: Global, kind: NumType, value: u64) -> Result<Vec<u8>, NoMemory>
-    ensures { IfOk result (λ v. v.items ≡ signed_decimal (read_of kind.signed kind.width value)) }
+/// A number in decimal, with its sign.
+fn put_signed<K: Sink>(text: &mut Pending, out: &mut K, kind: NumType, value: u64)
+    ensures { Puts (place (K.written out.old) (K.faults out.old) text.old) (place (K.written out.new) (K.faults out.new) text.new)
+        (signed_decimal (signed_of kind.width value)) }
 {
-    let mut buffer = Buffer::new();
+    text.put_number(out, signed_of(value, kind.width));
+}
+
+/// A number in decimal, with its sign where the type has one.
+fn put_typed<K: Sink>(text: &mut Pending, out: &mut K, kind: NumType, value: u64)
+    ensures { Puts (place (K.written out.old) (K.faults out.old) text.old) (place (K.written out.new) (K.faults out.new) text.new)
+        (signed_decimal (read_of kind.signed kind.width value)) }
+{
     if kind.signed {
-        return copied(
-            alloc,
-            buffer.format(signed_of(value, kind.width)).as_bytes(),
-        );
+        put_signed(text, out, kind, value)
+    } else {
+        text.put_number(out, value)
     }
-    copied(alloc, buffer.format(value).as_bytes())
 }
 
 /// A member of its enum by name, and any other number in decimal.
-pub(crate) fn value_text(
-    alloc: Global,
+pub(crate) fn put_value<K: Sink>(
+    text: &mut Pending,
+    out: &mut K,
     enums: &[EnumType],
     kind: NumType,
     value: u64,
-) -> Result<Vec<u8>, NoMemory>
-    ensures { IfOk result (λ v. v.items ≡ spec.value_text enums.now kind value) }
+)
+    ensures { Puts (place (K.written out.old) (K.faults out.old) text.old) (place (K.written out.new) (K.faults out.new) text.new)
+        (spec.value_text enums.now kind value) }
 {
     match member_name(enums, kind.members, value) {
-        Some(name) => copied(alloc, name),
-        None => number_text(alloc, kind, value),
+        Some(name) => text.put(out, name),
+        None => put_typed(text, out, kind, value),
     }
 }

@@ -13,17 +13,16 @@ use Rattle.svr_world.specs.World.{object_of}
 use Rattle.svr_frame.specs.Frame.{FrameTerm}
 use Rattle.svr_call.specs.declared.outcome.Outcome.{Outcome}
 use Rattle.svr_call.specs.Items.{is_one}
-use Rattle.svr_script.specs.Printed.{Event, line_of}
-use Rattle.svr_script.specs.ProofText.{certificates_of}
+use Rattle.svr_script.specs.Printed.{Event}
 use Rattle.svr_script.specs.Statement.{name_of_var, class_of_var}
 use Rattle.svr_script.specs.Run.{Printing, text_of, journal_of, event_text, event_log, is_zero, is_given_up}
 use Rattle.svr_script.proofs.Runs.{text_joined, journal_joined}
 use Rattle.svr_run.specs.declared.progress.Counts.{Counts}
 use Rattle.svr_run.specs.declared.stop.Stop.{Stop}
-use Rattle.svr_run.specs.declared.stop.Stop.TheVariants.{NoMemory, WriteFault}
+use Rattle.svr_run.specs.declared.stop.Stop.TheVariants.{WriteFault}
 use Rattle.svr_run.specs.declared.progress.Progress.{Progress}
 use Rattle.svr_run.specs.Events.{IsCause, event_in}
-use Rattle.svr_run.specs.Telling.{Sinks, Tells, TellsFront, SinkFailed, HasCounts, counted}
+use Rattle.svr_run.specs.Telling.{Sinks, sinks, Tells, TellsFront, SinkFailed, HasCounts, counted}
 
 -- ---- fronts
 
@@ -82,23 +81,33 @@ text_of_one how e = append-nil (event_text how e)
 journal_of_one : (e : Event) → journal_of (e ∷ []) ≡ event_log e
 journal_of_one e = append-nil (event_log e)
 
-pub one_told : (how : Printing) (e : Event) (text log : List ℕ) (a b : Sinks) → text ≡ event_text how e → log ≡ event_log e
-    → Appends a.out b.out text → Appends a.journal b.journal log → b.out_faults ≡ a.out_faults → b.journal_faults ≡ a.journal_faults → Tells how (e ∷ []) a b
-one_told how e text log a b is_text is_log printed logged out_kept journal_kept = record {
-  printed = subst (λ (t : List ℕ). Appends a.out b.out t) (is_text ∙ sym (text_of_one how e)) printed;
-  logged = subst (λ (t : List ℕ). Appends a.journal b.journal t) (is_log ∙ sym (journal_of_one e)) logged;
+pub both_told : (how : Printing) (e : Event) (x y : Option (List ℕ)) (m n : ℕ) (p q : Option (List ℕ)) (k l : ℕ)
+    → Appends x y (event_text how e) → n ≡ m → Appends p q (event_log e) → l ≡ k → Tells how (e ∷ []) (sinks x m p k) (sinks y n q l)
+both_told how e x y m n p q k l printed out_kept logged journal_kept = record {
+  printed = subst (λ (t : List ℕ). Appends x y t) (sym (text_of_one how e)) printed;
+  logged = subst (λ (t : List ℕ). Appends p q t) (sym (journal_of_one e)) logged;
   out_kept = out_kept;
   journal_kept = journal_kept;
 }
 
-pub one_front : (how : Printing) (e : Event) (text log : List ℕ) (a b : Sinks) → text ≡ event_text how e → log ≡ event_log e
-    → AppendsFront a.out b.out text → AppendsFront a.journal b.journal log → a.out_faults ≤ b.out_faults → a.journal_faults ≤ b.journal_faults → TellsFront how (e ∷ []) a b
-one_front how e text log a b is_text is_log printed logged out_later journal_later = record {
-  printed = subst (λ (t : List ℕ). AppendsFront a.out b.out t) (is_text ∙ sym (text_of_one how e)) printed;
-  logged = subst (λ (t : List ℕ). AppendsFront a.journal b.journal t) (is_log ∙ sym (journal_of_one e)) logged;
+one_front : (how : Printing) (e : Event) (x y : Option (List ℕ)) (m n : ℕ) (p q : Option (List ℕ)) (k l : ℕ)
+    → AppendsFront x y (event_text how e) → m ≤ n → AppendsFront p q (event_log e) → k ≤ l → TellsFront how (e ∷ []) (sinks x m p k) (sinks y n q l)
+one_front how e x y m n p q k l printed out_later logged journal_later = record {
+  printed = subst (λ (t : List ℕ). AppendsFront x y t) (sym (text_of_one how e)) printed;
+  logged = subst (λ (t : List ℕ). AppendsFront p q t) (sym (journal_of_one e)) logged;
   out_later = out_later;
   journal_later = journal_later;
 }
+
+-- the first sink failed, and nothing went to the second
+pub out_cut : (how : Printing) (e : Event) (x y : Option (List ℕ)) (m n : ℕ) (p : Option (List ℕ)) (k : ℕ)
+    → AppendsFront x y (event_text how e) → m ≤ n → TellsFront how (e ∷ []) (sinks x m p k) (sinks y n p k)
+out_cut how e x y m n p k printed later = one_front how e x y m n p p k k printed later (front_of_none p (event_log e)) (no_less k k refl)
+
+-- the second sink failed behind all that goes to the first
+pub journal_cut : (how : Printing) (e : Event) (x y : Option (List ℕ)) (m n : ℕ) (p q : Option (List ℕ)) (k l : ℕ)
+    → Appends x y (event_text how e) → n ≡ m → AppendsFront p q (event_log e) → k ≤ l → TellsFront how (e ∷ []) (sinks x m p k) (sinks y n q l)
+journal_cut how e x y m n p q k l printed kept logged later = one_front how e x y m n p q k l (front_of_all x y (event_text how e) printed) (no_less m n kept) logged later
 
 -- the same call
 pub told_as : (how : Printing) (e f : Event) (a b : Sinks) → e ≡ f → Tells how (e ∷ []) a b → Tells how (f ∷ []) a b
@@ -125,27 +134,19 @@ one_counted n es e h = record {
   given_up = ap (λ (k : ℕ). k + cond (is_given_up e.outcome) 1 0) h.given_up ∙ sym (sum_by_push (λ (x : Event). cond (is_given_up x.outcome) 1 0) es e);
 }
 
--- ---- texts of one call
+-- ---- texts that are put where a truth says so
 
-pub printed_with : (how : Printing) (e : Event) (line text : List ℕ) → how.proofs ≡ true → line ≡ line_of e → text ≡ line ++ certificates_of e.frame e.outcome → text ≡ event_text how e
-printed_with how e line text with_proofs is_line is_text =
-    is_text
-    ∙ ap (λ (t : List ℕ). t ++ certificates_of e.frame e.outcome) is_line
-    ∙ ap (λ (b : Bool). line_of e ++ cond b (certificates_of e.frame e.outcome) []) (sym with_proofs)
+pub with_text : (b : Bool) (text : List ℕ) → b ≡ true → text ≡ cond b text []
+with_text b text e = ap (λ (x : Bool). cond x text []) (sym e)
 
-pub printed_without : (how : Printing) (e : Event) (line : List ℕ) → how.proofs ≡ false → line ≡ line_of e → line ≡ event_text how e
-printed_without how e line without is_line =
-    is_line ∙ sym (append-nil (line_of e)) ∙ ap (λ (b : Bool). line_of e ++ cond b (certificates_of e.frame e.outcome) []) (sym without)
+pub without_text : (b : Bool) (text : List ℕ) → b ≡ false → [] ≡ cond b text []
+without_text b text e = ap (λ (x : Bool). cond x text []) (sym e)
 
 -- ---- what a result says
 
 pub all_ok : {T E : Type 0} (r : Result T E) (A B C D Q : Type 0) → OnOk r A → OnOk r B → OnOk r C → OnOk r D → (A → B → C → D → Q) → OnOk r Q
 all_ok (Ok x) A B C D Q a b c d f = f a b c d
 all_ok (Err e) A B C D Q a b c d f = tt
-
-pub both_failed : {T E : Type 0} (r : Result T E) (A B Q : Type 0) → OnErr r A → OnErr r B → (A → B → Q) → OnErr r Q
-both_failed (Ok x) A B Q a b f = tt
-both_failed (Err e) A B Q a b f = f a b
 
 pub failed_with : {T E : Type 0} (r : Result T E) (Q : Type 0) → Q → OnErr r Q
 failed_with (Ok x) Q q = tt
@@ -166,9 +167,6 @@ not_ok (Err e) P Q h = tt
 pub failed_as : {T E : Type 0} (r : Result T E) (P Q : E → Type 0) → IsErrAnd r P → ((e : E) → P e → Q e) → IfErr r Q
 failed_as (Ok x) P Q h f = absurd h
 failed_as (Err e) P Q h f = f e h
-
-pub memory_is_cause : (why : Stop) (a b : Sinks) → why ≡ NoMemory → IsCause why a b
-memory_is_cause why a b e = subst (λ (w : Stop). IsCause w a b) (sym e) tt
 
 pub fault_is_cause : (why : Stop) (a b : Sinks) → SinkFailed a b → why ≡ WriteFault → IsCause why a b
 fault_is_cause why a b failed e = subst (λ (w : Stop). IsCause w a b) (sym e) failed

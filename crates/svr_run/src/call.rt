@@ -29,7 +29,6 @@ use svr_typed::CallStmt;
 
 /// What was answered is told, counted, and handed to the variable that takes it.
 fn settle<K: Sink, J: Sink>(
-    alloc: Global,
     script: &Script<'_>,
     progress: &mut Progress,
     call: &CallStmt,
@@ -59,7 +58,7 @@ fn settle<K: Sink, J: Sink>(
         outcome,
         after: progress.world.values(call.object),
     };
-    tell(alloc, script.opts, &told, out, journal)?;
+    tell(script.opts, &told, out, journal)?;
     progress.calls += 1;
     progress.limited = is_limit(outcome);
     progress.counts = progress.counts.plus(outcome);
@@ -100,7 +99,7 @@ fn answer<K: Sink, J: Sink>(
         number,
         script.opts,
     )?;
-    settle(alloc, script, progress, call, frame, &outcome, out, journal)
+    settle(script, progress, call, frame, &outcome, out, journal)
 }
 
 /// Executes a call: it answers, and what it tells is written.

@@ -29,17 +29,6 @@ impl From<svr_randomize::NoMemory> for Stop {
     }
 }
 
-impl From<svr_printed::NoMemory> for Stop {
-    ghost use Rattle.std.specs.Prelude.{◌≡◌};
-    ghost use Rattle.svr_run.specs.declared.stop.Stop.TheVariants.{NoMemory};
-
-    ghost from_gives = { λ _ e. e ≡ NoMemory };
-
-    fn from(_error: svr_printed::NoMemory) -> Stop {
-        Stop::NoMemory
-    }
-}
-
 impl From<svr_edge::Failed> for Stop {
     ghost use Rattle.std.specs.Prelude.{◌≡◌};
     ghost use Rattle.svr_run.specs.declared.stop.Stop.TheVariants.{WriteFault};

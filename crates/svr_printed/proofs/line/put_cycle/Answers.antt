@@ -1,0 +1,5 @@
+use Rattle.svr_stream.proofs.Putting.{puts_then}
+use Rattle.svr_printed.proofs.line.put_cycle.Goals as goal
+
+pub returns : goal.returns
+returns g c = puts_then c.put.ensures c.put_name.ensures

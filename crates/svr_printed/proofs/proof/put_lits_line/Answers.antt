@@ -1,0 +1,5 @@
+use Rattle.svr_stream.proofs.Putting.{puts_then, puts_last}
+use Rattle.svr_printed.proofs.proof.put_lits_line.Goals as goal
+
+pub returns : goal.returns
+returns g c = puts_then c.put.ensures (puts_then c.put_lits.ensures (puts_last c.put-2.ensures))
