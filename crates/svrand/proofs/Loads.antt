@@ -13,6 +13,7 @@ use Rattle.svr_script.specs.Printed.{Event}
 use Rattle.svr_script.specs.Run as script
 use Rattle.svr_script.specs.Run.{State, IsRun, IsSoFar, counts_of, journal_of}
 use Rattle.svr_script.specs.Ending.{Output}
+use Rattle.svr_run_budget_laws.proofs.Along.{script_over_many}
 use Rattle.svr_run.specs.declared.progress.Counts.{Counts}
 use Rattle.svr_run.specs.declared.run.End.TheVariants as at_end
 use Rattle.svr_run.specs.declared.stop.Stop.TheVariants as stop
@@ -113,11 +114,11 @@ module _ (count : ℕ) (opts : Options) where
     ends_with : (n : Counts) (es : List Event) (t : State) (s : Status) → IsRun d opts es t → t.limited ≡ false → HasCounts n es → HasStatus n s
         → LoadAnswers count opts s (record { printed = load_line count (counts_of es); journal = journal_of es })
     ends_with n es t AllOne is_run free counts (zeros, given_up) =
-        record { design = d; read = read; events = es; state = t; run = is_run; ending_is = (free, sym counts.zeros ∙ zeros, sym counts.given_up ∙ given_up); output_is = refl }
+        record { design = d; read = read; events = es; state = t; run = is_run; many = script_over_many d opts es t is_run.so_far; ending_is = (free, sym counts.zeros ∙ zeros, sym counts.given_up ∙ given_up); output_is = refl }
     ends_with n es t SomeZero is_run free counts (zeros, given_up) =
-        record { design = d; read = read; events = es; state = t; run = is_run; ending_is = (free, subst (λ (k : ℕ). 0 < k) counts.zeros zeros, sym counts.given_up ∙ given_up); output_is = refl }
+        record { design = d; read = read; events = es; state = t; run = is_run; many = script_over_many d opts es t is_run.so_far; ending_is = (free, subst (λ (k : ℕ). 0 < k) counts.zeros zeros, sym counts.given_up ∙ given_up); output_is = refl }
     ends_with n es t SomeGivenUp is_run free counts given_up =
-        record { design = d; read = read; events = es; state = t; run = is_run; ending_is = (free, subst (λ (k : ℕ). 0 < k) counts.given_up given_up); output_is = refl }
+        record { design = d; read = read; events = es; state = t; run = is_run; many = script_over_many d opts es t is_run.so_far; ending_is = (free, subst (λ (k : ℕ). 0 < k) counts.given_up given_up); output_is = refl }
     ends_with n es t Usage is_run free counts none = absurd none
     ends_with n es t Refused is_run free counts none = absurd none
     ends_with n es t Limited is_run free counts none = absurd none
@@ -190,7 +191,7 @@ module _ (count : ℕ) (opts : Options) where
     limit_answers before after out faults (es, t, is_run, met, tells) = record {
       writing = (
         record { printed = []; journal = journal_of es },
-        record { design = d; read = read; events = es; state = t; run = is_run; ending_is = met; output_is = refl },
+        record { design = d; read = read; events = es; state = t; run = is_run; many = script_over_many d opts es t is_run.so_far; ending_is = met; output_is = refl },
         Appends-nil out,
         tells.logged,
       );
@@ -203,7 +204,7 @@ module _ (count : ℕ) (opts : Options) where
     -- ---- cut off
 
     begun : (es : List Event) (t : State) → IsSoFar d opts es t → LoadBegins count opts (record { printed = []; journal = journal_of es })
-    begun es t so_far = record { design = d; read = read; events = es; state = t; so_far = so_far; output_is = refl }
+    begun es t so_far = record { design = d; read = read; events = es; state = t; so_far = so_far; many = script_over_many d opts es t so_far; output_is = refl }
 
     pub cut_for_memory : (before after : Sinks) (out : Option (List ℕ)) (faults : ℕ) → Stops d opts before stop.NoMemory after
         → LoadAnswered count opts NoMemory (record { out = out; journal = before.journal; out_faults = faults; journal_faults = before.journal_faults }) (record { out = out; journal = after.journal; out_faults = faults; journal_faults = after.journal_faults })

@@ -7,6 +7,7 @@ use Rattle.svr_script.specs.Printed.{Event}
 use Rattle.svr_script.specs.Run.{State, IsRun, IsSoFar, counts_of}
 use Rattle.svr_script.specs.Ending as ending
 use Rattle.svr_script.specs.Ending.{Ending, HasEnding, output_of}
+use Rattle.svr_run_budget_laws.proofs.Along.{script_over_many}
 use Rattle.svr_run.specs.declared.progress.Counts.{Counts}
 use Rattle.svr_run.specs.declared.run.End.TheVariants as at_end
 use Rattle.svr_run.specs.declared.stop.Stop.TheVariants as stop
@@ -26,7 +27,7 @@ module _ (d : DesignTerm) (opts : Options) (text : List ℕ) (small : length tex
   -- ---- to its end
 
   come_to : (e : Ending) (es : List Event) (t : State) → IsRun d opts es t → HasEnding t (counts_of es) e → Ends opts text e (output_of (printing_of opts) es)
-  come_to e es t is_run has = record { design = d; read = read; run = record { events = es; state = t; run = is_run; ending_is = has; output_is = refl } }
+  come_to e es t is_run has = record { design = d; read = read; run = record { events = es; state = t; run = is_run; ending_is = has; output_is = refl }; many = script_over_many d opts es t is_run.so_far }
 
   pub ended_answers : (n : Counts) (status : Status) (old new : Sinks) → run.Ends d opts (at_end.Ended n) old new → HasStatus n status → Answered opts text status old new
   ended_answers n AllOne old new (es, t, is_run, free, counts, tells) (zeros, given_up) = record {
@@ -93,7 +94,7 @@ module _ (d : DesignTerm) (opts : Options) (text : List ℕ) (small : length tex
   -- ---- cut off
 
   begun : (es : List Event) (t : State) → IsSoFar d opts es t → Begins opts text (output_of (printing_of opts) es)
-  begun es t so_far = record { design = d; read = read; events = es; state = t; so_far = so_far; output_is = refl }
+  begun es t so_far = record { design = d; read = read; events = es; state = t; so_far = so_far; many = script_over_many d opts es t so_far; output_is = refl }
 
   pub cut_for_memory : (old new : Sinks) → Stops d opts old stop.NoMemory new → Answered opts text NoMemory old new
   cut_for_memory old new (es, t, so_far, tells) = record {

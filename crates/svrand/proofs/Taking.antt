@@ -36,7 +36,7 @@ use Rattle.clap.proofs.CallerLemmas.{entry_by_id}
 use Rattle.clap.proofs.WalkLemmas.{one_text-rows}
 use Rattle.clap.proofs.OnLiterals.{clap_on_literals}
 use Rattle.svr_phase.specs.declared.options.Options.{Options}
-use Rattle.svrand.specs.Words.{option, flag, run_command, class_count, load_command, number_or, is_set, options_of, IsCommand, IsLoad, AskNothing}
+use Rattle.svrand.specs.Words.{option, flag, run_command, class_count, load_command, check_command, number_or, is_set, options_of, IsCommand, IsLoad, IsCheck, AskNothing}
 use Rattle.svrand.specs.Taken.{IsNumber, IsTruth, AreTaken, LoadIsTaken}
 
 -- ---- the command
@@ -74,6 +74,9 @@ run_is_read = record { is_free = refl; is_simple = refl; is_plain = refl; have =
 
 load_is_read : IsRead load_command
 load_is_read = record { is_free = refl; is_simple = refl; is_plain = refl; have = refl; simple = refl }
+
+check_is_read : IsRead check_command
+check_is_read = record { is_free = refl; is_simple = refl; is_plain = refl; have = refl; simple = refl }
 
 both : (a b : Bool) → (a && b) ≡ true → (a ≡ true) × (b ≡ true)
 both true true e = (refl, refl)
@@ -415,25 +418,64 @@ pub load_not_asked : (words : List Text) (c : Command) (e : Error) (r : Result A
     → (count : ℕ) (opts : Options) → IsLoad words count opts → ⊥
 load_not_asked words c e r is err kinds other count opts load = failed_words load_command words c e r load_is_read is err kinds other load.taken
 
+pub check_asked : (words : List Text) (c : Command) (m : ArgMatches) (r : Result ArgMatches Error)
+    → slice_get words 0 ≡ Some (codes "check") → app_of c ≡ check_command → r ≡ Ok m
+    → (is_simple_and_free (app_of c) ≡ true → FailsBy (fault_of (app_of c) words) r) → IfOk r (HasMatchesOf (app_of c) words) → IsCheck words
+check_asked words c m r first is ok kinds matches =
+    let h : (fault_of check_command words ≡ []) × (rows_of (found_of m) ≡ matches_of check_command words) = parsed_words check_command words c m r check_is_read is ok kinds matches in
+    record { named = first; taken = h.0 }
+
+pub check_not_asked : (words : List Text) (c : Command) (e : Error) (r : Result ArgMatches Error) → app_of c ≡ check_command → r ≡ Err e
+    → (is_simple_and_free (app_of c) ≡ true → FailsBy (fault_of (app_of c) words) r) → (kind_of e ≡ OutOfMemory → ⊥) → IsCheck words → ⊥
+check_not_asked words c e r is err kinds other check = failed_words check_command words c e r check_is_read is err kinds other check.taken
+
 -- ---- the first word
 
--- no word is both
-names_differ : (o : Option Text) → o ≡ Some (codes "run") → o ≡ Some (codes "load") → ⊥
-names_differ o run load =
-    let same : codes "run" ≡ codes "load" = ap (λ (x : Option Text). unwrap_or x (codes "run")) (sym run ∙ load) in
-    differ (codes "run") (codes "load") 114 108 refl refl (inr (omega arith)) same
+-- no word names two commands
+names_differ : (a b : Text) (o : Option Text) → (a ≡ b → ⊥) → o ≡ Some a → o ≡ Some b → ⊥
+names_differ a b o other first second = other (ap (λ (x : Option Text). unwrap_or x a) (sym first ∙ second))
+
+run_or_load : codes "run" ≡ codes "load" → ⊥
+run_or_load e = differ (codes "run") (codes "load") 114 108 refl refl (inr (omega arith)) e
+
+run_or_check : codes "run" ≡ codes "check" → ⊥
+run_or_check e = differ (codes "run") (codes "check") 114 99 refl refl (inr (omega arith)) e
+
+load_or_check : codes "load" ≡ codes "check" → ⊥
+load_or_check e = differ (codes "load") (codes "check") 108 99 refl refl (inr (omega arith)) e
 
 pub run_is_no_load : (words : List Text) (a : Options) (count : ℕ) (b : Options) → IsCommand words a → IsLoad words count b → ⊥
-run_is_no_load words a count b run load = names_differ (slice_get words 0) run.named load.named
+run_is_no_load words a count b run load = names_differ (codes "run") (codes "load") (slice_get words 0) run_or_load run.named load.named
+
+pub run_is_no_check : (words : List Text) (opts : Options) → IsCommand words opts → IsCheck words → ⊥
+run_is_no_check words opts run check = names_differ (codes "run") (codes "check") (slice_get words 0) run_or_check run.named check.named
+
+pub load_is_no_check : (words : List Text) (count : ℕ) (opts : Options) → IsLoad words count opts → IsCheck words → ⊥
+load_is_no_check words count opts load check = names_differ (codes "load") (codes "check") (slice_get words 0) load_or_check load.named check.named
 
 pub nothing_for_run : (words : List Text) → slice_get words 0 ≡ Some (codes "run") → ((opts : Options) → IsCommand words opts → ⊥) → AskNothing words
-nothing_for_run words first none = record { no_run = none; no_load = λ count opts load. names_differ (slice_get words 0) first load.named }
+nothing_for_run words first none = record {
+  no_run = none;
+  no_load = λ count opts load. names_differ (codes "run") (codes "load") (slice_get words 0) run_or_load first load.named;
+  no_check = λ check. names_differ (codes "run") (codes "check") (slice_get words 0) run_or_check first check.named;
+}
 
 pub nothing_for_load : (words : List Text) → slice_get words 0 ≡ Some (codes "load") → ((count : ℕ) (opts : Options) → IsLoad words count opts → ⊥) → AskNothing words
-nothing_for_load words first none = record { no_run = λ opts run. names_differ (slice_get words 0) run.named first; no_load = none }
+nothing_for_load words first none = record {
+  no_run = λ opts run. names_differ (codes "run") (codes "load") (slice_get words 0) run_or_load run.named first;
+  no_load = none;
+  no_check = λ check. names_differ (codes "load") (codes "check") (slice_get words 0) load_or_check first check.named;
+}
 
-pub nothing_for_other : (words : List Text) → (slice_get words 0 ≡ Some (codes "run") → ⊥) → (slice_get words 0 ≡ Some (codes "load") → ⊥) → AskNothing words
-nothing_for_other words no_run no_load = record { no_run = λ opts run. no_run run.named; no_load = λ count opts load. no_load load.named }
+pub nothing_for_check : (words : List Text) → slice_get words 0 ≡ Some (codes "check") → (IsCheck words → ⊥) → AskNothing words
+nothing_for_check words first none = record {
+  no_run = λ opts run. names_differ (codes "run") (codes "check") (slice_get words 0) run_or_check run.named first;
+  no_load = λ count opts load. names_differ (codes "load") (codes "check") (slice_get words 0) load_or_check load.named first;
+  no_check = none;
+}
+
+pub nothing_for_other : (words : List Text) → (slice_get words 0 ≡ Some (codes "run") → ⊥) → (slice_get words 0 ≡ Some (codes "load") → ⊥) → (slice_get words 0 ≡ Some (codes "check") → ⊥) → AskNothing words
+nothing_for_other words no_run no_load no_check = record { no_run = λ opts run. no_run run.named; no_load = λ count opts load. no_load load.named; no_check = λ check. no_check check.named }
 
 pub head_is : {A B : Type 0} (f : A → B) (xs : List A) (x : A) → 1 ≤ length xs → x ≡ get_or xs 0 x → slice_get (map f xs) 0 ≡ Some (f x)
 head_is f [] x less is = absurd (omega arith)

@@ -2,7 +2,6 @@
 use Rattle.std.proofs.Common.{◌≡◌, ◌≤◌, ◌<◌, ◌⊎◌, ℕ, ◌+◌, List, ◌++◌, length, Option, Some, None, IfSome, refl, sym, ap, ◌∙◌, subst, inl, inr, arith, append-nil, length-append}
 use Rattle.std.specs.Io.KnownBytes.{Consumes, IsAtEnd}
 use Rattle.svr_edge.specs.Known.{Takes}
-use Rattle.std.proofs.KnownBytes.{Keeps-refl}
 use Rattle.svr_limits.specs.declared.limit.TheConstants.{TEXT_LIMIT}
 use Rattle.svr_phase.specs.declared.options.Options.{Options}
 use Rattle.svr_run.specs.Telling.{Sinks}
@@ -35,7 +34,7 @@ read_some (Some xs) (Some ys) all n e (bytes, taken, count) =
 -- ---- how far the text was read
 
 -- the answer to a text comes once it was read to its end
-pub answer_read : (opts : Options) (text : List ℕ) (status : Status) (now later : Sinks) (old new : Option (List ℕ)) → Answered opts text status now later → IsAtEnd new → HasRead status old new
+pub answer_read : (opts : Options) (text : List ℕ) (status : Status) (now later : Sinks) (old new : Option (List ℕ)) → Answered opts text status now later → IsAtEnd new → HasRead TEXT_LIMIT status old new
 answer_read opts text AllOne now later old new answered end = end
 answer_read opts text SomeZero now later old new answered end = end
 answer_read opts text SomeGivenUp now later old new answered end = end
@@ -47,7 +46,7 @@ answer_read opts text WriteFault now later old new answered end = tt
 answer_read opts text NoMemory now later old new answered end = tt
 
 pub answer_read_text : (opts : Options) (text : List ℕ) (status : Status) (now later : Sinks) (all : List ℕ) (old new : Option (List ℕ))
-    → Answered opts text status now later → length all ≤ TEXT_LIMIT → IsAtEnd new → HasReadText all status old new
+    → Answered opts text status now later → length all ≤ TEXT_LIMIT → IsAtEnd new → HasReadText TEXT_LIMIT all status old new
 answer_read_text opts text AllOne now later all old new answered small end = end
 answer_read_text opts text SomeZero now later all old new answered small end = end
 answer_read_text opts text SomeGivenUp now later all old new answered small end = end
@@ -59,28 +58,26 @@ answer_read_text opts text WriteFault now later all old new answered small end =
 answer_read_text opts text NoMemory now later all old new answered small end = tt
 
 -- a refusal was told, or not all of it
-pub refusal_read : (result : Status) (old new : Option (List ℕ)) (A F R N : Type 0) → Takes old new (TEXT_LIMIT + 1)
-    → ((result ≡ Refused) × A) ⊎ (((result ≡ WriteFault) × F × R) ⊎ ((result ≡ NoMemory) × N)) → HasRead result old new
-refusal_read result old new A F R N taken (inl (e, all)) = subst (λ s. HasRead s old new) (sym e) (inr taken)
-refusal_read result old new A F R N taken (inr (inl (e, front, rose))) = subst (λ s. HasRead s old new) (sym e) tt
-refusal_read result old new A F R N taken (inr (inr (e, kept))) = subst (λ s. HasRead s old new) (sym e) tt
+pub refusal_read : (limit : ℕ) (result : Status) (old new : Option (List ℕ)) (A F R N : Type 0) → Takes old new (limit + 1)
+    → ((result ≡ Refused) × A) ⊎ (((result ≡ WriteFault) × F × R) ⊎ ((result ≡ NoMemory) × N)) → HasRead limit result old new
+refusal_read limit result old new A F R N taken (inl (e, all)) = subst (λ s. HasRead limit s old new) (sym e) (inr taken)
+refusal_read limit result old new A F R N taken (inr (inl (e, front, rose))) = subst (λ s. HasRead limit s old new) (sym e) tt
+refusal_read limit result old new A F R N taken (inr (inr (e, kept))) = subst (λ s. HasRead limit s old new) (sym e) tt
 
-pub refusal_read_text : (text : List ℕ) (result : Status) (old new : Option (List ℕ)) (A F R N : Type 0)
-    → TEXT_LIMIT < length text → Takes old new (TEXT_LIMIT + 1)
-    → ((result ≡ Refused) × A) ⊎ (((result ≡ WriteFault) × F × R) ⊎ ((result ≡ NoMemory) × N)) → HasReadText text result old new
-refusal_read_text text result old new A F R N long taken (inl (e, all)) = subst (λ s. HasReadText text s old new) (sym e) (inr (long, taken))
-refusal_read_text text result old new A F R N long taken (inr (inl (e, front, rose))) = subst (λ s. HasReadText text s old new) (sym e) tt
-refusal_read_text text result old new A F R N long taken (inr (inr (e, kept))) = subst (λ s. HasReadText text s old new) (sym e) tt
+pub refusal_read_text : (limit : ℕ) (text : List ℕ) (result : Status) (old new : Option (List ℕ)) (A F R N : Type 0)
+    → limit < length text → Takes old new (limit + 1)
+    → ((result ≡ Refused) × A) ⊎ (((result ≡ WriteFault) × F × R) ⊎ ((result ≡ NoMemory) × N)) → HasReadText limit text result old new
+refusal_read_text limit text result old new A F R N long taken (inl (e, all)) = subst (λ s. HasReadText limit text s old new) (sym e) (inr (long, taken))
+refusal_read_text limit text result old new A F R N long taken (inr (inl (e, front, rose))) = subst (λ s. HasReadText limit text s old new) (sym e) tt
+refusal_read_text limit text result old new A F R N long taken (inr (inr (e, kept))) = subst (λ s. HasReadText limit text s old new) (sym e) tt
 
--- the usage was told, or not all of it
-pub usage_read : (result : Status) (known : Option (List ℕ)) (A F R : Type 0) → ((result ≡ Usage) × A) ⊎ ((result ≡ WriteFault) × F × R) → HasRead result known known
-usage_read result known A F R (inl (e, all)) = subst (λ s. HasRead s known known) (sym e) (Keeps-refl known)
-usage_read result known A F R (inr (e, front, rose)) = subst (λ s. HasRead s known known) (sym e) tt
+-- of a command that reads a text of at most so many bytes
+pub read_for : (n limit : ℕ) (result : Status) (old new : Option (List ℕ)) → limit ≡ n → HasRead n result old new → HasRead limit result old new
+read_for n limit result old new e read = subst (λ (k : ℕ). HasRead k result old new) (sym e) read
 
-pub usage_read_text : (text : List ℕ) (result : Status) (known : Option (List ℕ)) (A F R : Type 0)
-    → ((result ≡ Usage) × A) ⊎ ((result ≡ WriteFault) × F × R) → HasReadText text result known known
-usage_read_text text result known A F R (inl (e, all)) = subst (λ s. HasReadText text s known known) (sym e) (Keeps-refl known)
-usage_read_text text result known A F R (inr (e, front, rose)) = subst (λ s. HasReadText text s known known) (sym e) tt
+pub extent_for : (n limit : ℕ) (o : Option (List ℕ)) (result : Status) (old new : Option (List ℕ)) → limit ≡ n
+    → IfSome o (λ text. HasReadText n text result old new) → IfSome o (λ text. HasReadText limit text result old new)
+extent_for n limit o result old new e read = subst (λ (k : ℕ). IfSome o (λ text. HasReadText k text result old new)) (sym e) read
 
 pub ends_unread : (result : Status) (A F R : Type 0) → ((result ≡ Usage) × A) ⊎ ((result ≡ WriteFault) × F × R) → EndsUnread result
 ends_unread result A F R (inl (e, all)) = inl e

@@ -10,10 +10,10 @@ use Rattle.svr_phase.specs.declared.options.Options.{Options}
 use Rattle.svr_script.specs.Ending.{Output}
 use Rattle.svr_refusal.specs.declared.refusal.Refusal.TheVariants as refusal
 use Rattle.svr_run.specs.Telling.{Sinks, SinkFailed}
-use Rattle.svrand.specs.Words.{IsCommand, IsLoad, AskNothing}
+use Rattle.svrand.specs.Words.{IsCommand, IsLoad, IsCheck, AskNothing}
 use Rattle.svrand.specs.Lines.{refused_at, nowhere}
 use Rattle.svrand.specs.Answer.{IsRefused}
-use Rattle.svrand.specs.Outcome.{prints, usage_text, too_long, refused, Refuses, Answers, MayTell, LoadAnswers, LoadMayTell, Says, MaySay, Writing, Writes}
+use Rattle.svrand.specs.Outcome.{prints, usage_text, too_long, refused, Refuses, Answers, MayTell, LoadAnswers, LoadMayTell, CheckAnswers, CheckMayTell, Says, MaySay, Writing, Writes}
 use Rattle.svrand.specs.Parts.{Answered, LoadAnswered}
 use Rattle.svrand.proofs.Told.{if_told, read_all, read_some}
 use Rattle.svrand.specs.declared.status.Status.{Status}
@@ -61,7 +61,12 @@ answer_is_said words opts text status old new asked writing =
 pub load_is_said : (words : List (List ℕ)) (count : ℕ) (opts : Options) (text : List ℕ) (status : Status) (old new : Sinks) → IsLoad words count opts
     → Writing (LoadAnswers count opts) (LoadMayTell count opts) status old new → Writes words text status old new
 load_is_said words count opts text status old new asked writing =
-    mapped (LoadAnswers count opts) (Says words text) (LoadMayTell count opts) (MaySay words text) (λ s o h. inr (inr (count, opts, asked, h))) (λ o h. inr (inr (count, opts, asked, h))) status old new writing
+    mapped (LoadAnswers count opts) (Says words text) (LoadMayTell count opts) (MaySay words text) (λ s o h. inr (inr (inl (count, opts, asked, h)))) (λ o h. inr (inr (inl (count, opts, asked, h)))) status old new writing
+
+pub check_is_said : (words : List (List ℕ)) (text : List ℕ) (status : Status) (old new : Sinks) → IsCheck words
+    → Writing (CheckAnswers text) (CheckMayTell text) status old new → Writes words text status old new
+check_is_said words text status old new asked writing =
+    mapped (CheckAnswers text) (Says words text) (CheckMayTell text) (MaySay words text) (λ s o h. inr (inr (inr (asked, h)))) (λ o h. inr (inr (inr (asked, h)))) status old new writing
 
 -- over a source that tells its text
 pub source_is_said : (o : Option (List ℕ)) (words : List (List ℕ)) (opts : Options) (status : Status) (old new : Sinks) → IsCommand words opts
@@ -73,6 +78,11 @@ pub made_is_said : (o : Option (List ℕ)) (words : List (List ℕ)) (count : �
     → LoadAnswered count opts status old new → IfSome o (λ text. Writes words text status old new)
 made_is_said None words count opts status old new asked answered = tt
 made_is_said (Some text) words count opts status old new asked answered = load_is_said words count opts text status old new asked answered.writing
+
+pub checked_is_said : (o : Option (List ℕ)) (words : List (List ℕ)) (status : Status) (old new : Sinks) → IsCheck words
+    → IfSome o (λ text. Writing (CheckAnswers text) (CheckMayTell text) status old new) → IfSome o (λ text. Writes words text status old new)
+checked_is_said None words status old new asked writing = tt
+checked_is_said (Some text) words status old new asked writing = check_is_said words text status old new asked writing
 
 -- ---- one text
 

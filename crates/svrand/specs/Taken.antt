@@ -6,7 +6,7 @@ use Rattle.clap.specs.Values.{IsUnsignedIn}
 use Rattle.clap.specs.Matches.{one_text}
 use Rattle.clap.specs.declared.parser.matches.Found.{Found}
 use Rattle.svr_phase.specs.declared.options.Options.{Options}
-use Rattle.svrand.specs.Words.{IsCommand, IsLoad}
+use Rattle.svrand.specs.Words.{IsCommand, IsLoad, IsCheck}
 use Rattle.svrand.specs.declared.command.Request.{Request}
 use Rattle.svrand.specs.declared.command.Request.TheVariants as request
 
@@ -37,3 +37,4 @@ pub record LoadIsTaken (f : Found) : Type 0 where
 abbrev pub Asks : List (List ℕ) → Request → Type 0
 Asks words (request.Run opts) = IsCommand words opts × AreInRange opts
 Asks words (request.Load load) = IsLoad words load.count load.opts × (load.count ≤ 2000) × AreInRange load.opts
+Asks words request.Check = IsCheck words

@@ -17,7 +17,7 @@ option name parser = record (new_rule name) { long = Some name; action = Some Se
 abbrev pub flag : Text → Rule
 flag name = record (new_rule name) { long = Some name; action = Some SetTrue; parser = Some Truth }
 
--- a command with the options of a run, and without help
+-- a command without options, and without help
 abbrev pub plain_command : Text → App
 plain_command name = on_top (λ s. record s { disable_help_flag = true }) (new_app name)
 
@@ -31,6 +31,10 @@ with_options name =
 
 abbrev pub run_command : App
 run_command = with_options (codes "run")
+
+-- a check has no options
+abbrev pub check_command : App
+check_command = plain_command (codes "check")
 
 -- how many classes the script of a load has
 abbrev pub class_count : Rule
@@ -70,7 +74,13 @@ pub record IsLoad (words : List Text) (count : ℕ) (opts : Options) : Type 0 wh
   pub counted : count ≡ number_or 0 (one_of (codes "N") (matches_of load_command words))
   pub options : opts ≡ options_of (matches_of load_command words)
 
--- the words ask for neither
+-- The words ask for a check: the first names the command, and `clap` takes those behind it for a command without options.
+pub record IsCheck (words : List Text) : Type 0 where
+  pub named : slice_get words 0 ≡ Some (codes "check")
+  pub taken : fault_of check_command words ≡ []
+
+-- the words ask for none of these
 pub record AskNothing (words : List Text) : Type 0 where
   pub no_run : (opts : Options) → IsCommand words opts → ⊥
   pub no_load : (count : ℕ) (opts : Options) → IsLoad words count opts → ⊥
+  pub no_check : IsCheck words → ⊥

@@ -1,11 +1,11 @@
 // The words of the command line.
-ghost use Rattle.std.specs.Prelude.{◌≡◌, ◌≤◌, ◌<◌, ◌^◌, ℕ, List, Some, None, false, codes, map, slice_get, IfOk, IfSome, IfNone, string_bytes};
+ghost use Rattle.std.specs.Prelude.{◌≡◌, ◌≤◌, ◌<◌, ◌^◌, ℕ, List, Some, None, true, false, codes, map, slice_get, IfOk, IfSome, IfNone, string_bytes};
 ghost use Rattle.clap.specs.Matches.{found_of};
 ghost use Rattle.clap.specs.Walk.{one_of, rows_of, rule_of};
 ghost use Rattle.clap.specs.Simple.{app_of};
 ghost use Rattle.svr_phase.specs.declared.options.Options.{Options};
 ghost use Rattle.svrand.specs.Words as spec;
-ghost use Rattle.svrand.specs.Words.{IsCommand, IsLoad, AskNothing, number_or, is_set, options_of};
+ghost use Rattle.svrand.specs.Words.{IsCommand, IsLoad, IsCheck, AskNothing, number_or, is_set, options_of};
 ghost use Rattle.svrand.specs.Taken.{IsNumber, IsTruth, AreTaken, AreInRange, LoadIsTaken, Asks};
 
 use clap::builder::ValueParser;
@@ -28,6 +28,8 @@ pub enum Request {
     Run(Options),
     /// A run of the script of a load.
     Load(Load),
+    /// A check of the derivation that is read.
+    Check,
 }
 
 /// An option that takes one value.
@@ -92,6 +94,13 @@ fn load_command<'a>(alloc: Global) -> Result<Command<'a>, AllocError>
 {
     let options = load_options(alloc)?;
     options.arg(class_count(alloc))
+}
+
+/// `check`, which has no options.
+fn check_command<'a>(alloc: Global) -> Command<'a>
+    ensures { app_of result ≡ spec.check_command }
+{
+    Command::new(alloc, "check").disable_help_flag(true)
 }
 
 /// The number of an option, where it was used.
@@ -202,7 +211,39 @@ fn load_asked(alloc: Global, words: &[String]) -> Result<Option<Request>, AllocE
     }
 }
 
-/// What the words ask for. None where it is neither a run nor a load.
+/// Whether `clap` takes words of which the first names the command.
+fn check_taken(alloc: Global, words: &[String]) -> Result<bool, AllocError>
+    requires { slice_get (map (λ w. string_bytes w) words.now) 0 ≡ Some (codes "check") }
+    ensures taken { IfOk result (λ b. b ≡ true → IsCheck (map (λ w. string_bytes w) words.now)) }
+    ensures other { IfOk result (λ b. b ≡ false → IsCheck (map (λ w. string_bytes w) words.now) → ⊥) }
+{
+    let command = check_command(alloc);
+    match command.try_get_matches_from(words) {
+        Ok(_) => Ok(true),
+        Err(error) => {
+            if error.kind() == ErrorKind::OutOfMemory {
+                Err(AllocError)
+            } else {
+                Ok(false)
+            }
+        }
+    }
+}
+
+#[tactic(auto, using(crate::proofs::Taking::nothing_for_check))]
+fn check_asked(alloc: Global, words: &[String]) -> Result<Option<Request>, AllocError>
+    requires { slice_get (map (λ w. string_bytes w) words.now) 0 ≡ Some (codes "check") }
+    ensures some { IfOk result (λ r. IfSome r (Asks (map (λ w. string_bytes w) words.now))) }
+    ensures none { IfOk result (λ r. IfNone r (AskNothing (map (λ w. string_bytes w) words.now))) }
+{
+    if check_taken(alloc, words)? {
+        Ok(Some(Request::Check))
+    } else {
+        Ok(None)
+    }
+}
+
+/// What the words ask for. None where no command is theirs.
 pub fn command(alloc: Global, words: &[String]) -> Result<Option<Request>, AllocError>
     ensures some { IfOk result (λ r. IfSome r (Asks (map (λ w. string_bytes w) words.now))) }
     ensures none { IfOk result (λ r. IfNone r (AskNothing (map (λ w. string_bytes w) words.now))) }
@@ -213,6 +254,8 @@ pub fn command(alloc: Global, words: &[String]) -> Result<Option<Request>, Alloc
                 run_asked(alloc, words)
             } else if name.as_str() == "load" {
                 load_asked(alloc, words)
+            } else if name.as_str() == "check" {
+                check_asked(alloc, words)
             } else {
                 Ok(None)
             }

@@ -1,10 +1,11 @@
 //! `svrand`, a constrained random value generator for SystemVerilog (IEEE 1800-2017, clause 18).
 //!
-//! It reads a script of classes and `randomize()` calls from its standard input and prints one line for each call, when it is answered.
+//! It reads a script of classes and `randomize()` calls from its standard input and prints one line for each call, when it is answered; or it reads clauses with a derivation from them, and says whether it is one.
 //! All that it does is `run`, whose contract says what is written, and with which status it ends, by the words and the text alone.
 #![tactic(auto)]
 
 mod answer;
+mod check;
 mod command;
 mod design;
 mod finish;

@@ -1,13 +1,14 @@
 // The top call.
-ghost use Rattle.std.specs.Prelude.{◌≡◌, ◌≤◌, ◌⊎◌, map, IfSome, string_bytes};
+ghost use Rattle.std.specs.Prelude.{◌≡◌, ◌≤◌, ◌⊎◌, ℕ, map, IfSome, string_bytes};
 ghost use Rattle.std.specs.Io.KnownBytes.{Keeps};
 ghost use Rattle.svr_edge.specs.Causes.{Rose};
-ghost use Rattle.svr_phase.specs.declared.options.Options.{Options as OptionsType};
-ghost use Rattle.svrand.specs.Words.{IsCommand, AskNothing};
+ghost use Rattle.svr_limits.specs.declared.limit.TheConstants.{TEXT_LIMIT};
+ghost use Rattle.svrand.specs.Words.{AskNothing};
 ghost use Rattle.svrand.specs.Taken.{AreInRange};
-ghost use Rattle.svrand.specs.Outcome.{Answers, MayTell, Writing, Writes, HasRead, HasReadText, EndsUnread};
+ghost use Rattle.svrand.specs.Outcome.{Answers, MayTell, Writing, Writes, Reads, HasRead, HasReadText, EndsUnread};
 
 use crate::answer::answer;
+use crate::check::check;
 use crate::command::{Request, command};
 use crate::finish::{finish, refuse};
 use crate::load::load;
@@ -19,7 +20,7 @@ use svr_phase::Options;
 use svr_refusal::Refusal;
 
 const USAGE: &[u8] =
-    b"usage: svrand run [--seed N] [--budget N] [--size-cap N] [--proofs]\n       svrand load N [--seed N] [--budget N] [--size-cap N] [--proofs]\n";
+    b"usage: svrand run [--seed N] [--budget N] [--size-cap N] [--proofs]\n       svrand load N [--seed N] [--budget N] [--size-cap N] [--proofs]\n       svrand check\n";
 
 /// The run of the script that a source has.
 fn run_source<S: Source, K: Sink, J: Sink>(
@@ -34,9 +35,9 @@ fn run_source<S: Source, K: Sink, J: Sink>(
         Writing (Answers opts text) (MayTell opts text) result
         (record { out = K.written out.old; journal = J.written journal.old; out_faults = K.faults out.old; journal_faults = J.faults journal.old })
         (record { out = K.written out.new; journal = J.written journal.new; out_faults = K.faults out.new; journal_faults = J.faults journal.new })) }
-    ensures extent { IfSome (S.left src.old) (λ text. HasReadText text result (S.left src.old) (S.left src.new)) }
+    ensures extent { IfSome (S.left src.old) (λ text. HasReadText TEXT_LIMIT text result (S.left src.old) (S.left src.new)) }
     ensures command { result ≡ Status.Usage → ⊥ }
-    ensures read { HasRead result (S.left src.old) (S.left src.new) }
+    ensures read { HasRead TEXT_LIMIT result (S.left src.old) (S.left src.new) }
     ensures read_fault { result ≡ Status.ReadFault → Rose (S.faults src.old) (S.faults src.new) }
     ensures write_fault { result ≡ Status.WriteFault → Rose (K.faults out.old) (K.faults out.new) ⊎ Rose (J.faults journal.old) (J.faults journal.new) }
     ensures source_faults { S.faults src.old ≤ S.faults src.new }
@@ -53,7 +54,7 @@ fn run_source<S: Source, K: Sink, J: Sink>(
 
 /// All that the program does.
 ///
-/// `words` are the words behind the program's name. The script is read from `src`, or made where the words ask for a load; all printed text goes to `out`, and the log of each question that was given up to `journal`. What a call tells is written before the next one is asked. The status is the one that the process is to end with.
+/// `words` are the words behind the program's name. The script, or the derivation to be checked, is read from `src`; that of a load is made; all printed text goes to `out`, and the log of each question that was given up to `journal`. What a call tells is written before the next one is asked. The status is the one that the process is to end with.
 pub fn run<S: Source, K: Sink, J: Sink>(
     alloc: Global,
     words: &[String],
@@ -61,19 +62,19 @@ pub fn run<S: Source, K: Sink, J: Sink>(
     out: &mut K,
     journal: &mut J,
 ) -> Status
-    // Over a source that tells its text, what is written is what the words and the text say.
+    // Over a source that tells its text, what is written is what the words and the text say. A run gives up a question only where 2^(n+1) is greater than the budget, n being the bits of the encoding whose log the journal has.
     ensures headline { IfSome (S.left src.old) (λ text.
         Writes (map (λ w. string_bytes w) words.now) text result
         (record { out = K.written out.old; journal = J.written journal.old; out_faults = K.faults out.old; journal_faults = J.faults journal.old })
         (record { out = K.written out.new; journal = J.written journal.new; out_faults = K.faults out.new; journal_faults = J.faults journal.new })) }
 
     // The part of the text that was read goes with the refusal: one byte past the limit where the text is too long, else all.
-    ensures extent { (opts : OptionsType) → IsCommand (map (λ w. string_bytes w) words.now) opts → IfSome (S.left src.old) (λ text. HasReadText text result (S.left src.old) (S.left src.new)) }
+    ensures extent { (limit : ℕ) → Reads (map (λ w. string_bytes w) words.now) limit → IfSome (S.left src.old) (λ text. HasReadText limit text result (S.left src.old) (S.left src.new)) }
     // Over any source: what the words alone decide, how far the text was read, and each fault's cause.
     ensures usage { result ≡ Status.Usage → AskNothing (map (λ w. string_bytes w) words.now) }
     ensures no_command { AskNothing (map (λ w. string_bytes w) words.now) → EndsUnread result }
-    ensures read { (opts : OptionsType) → IsCommand (map (λ w. string_bytes w) words.now) opts → HasRead result (S.left src.old) (S.left src.new) }
-    ensures unread { ((opts : OptionsType) → IsCommand (map (λ w. string_bytes w) words.now) opts → ⊥) → Keeps (S.left src.old) (S.left src.new) }
+    ensures read { (limit : ℕ) → Reads (map (λ w. string_bytes w) words.now) limit → HasRead limit result (S.left src.old) (S.left src.new) }
+    ensures unread { ((limit : ℕ) → Reads (map (λ w. string_bytes w) words.now) limit → ⊥) → Keeps (S.left src.old) (S.left src.new) }
     ensures read_fault { result ≡ Status.ReadFault → Rose (S.faults src.old) (S.faults src.new) }
     ensures write_fault { result ≡ Status.WriteFault → Rose (K.faults out.old) (K.faults out.new) ⊎ Rose (J.faults journal.old) (J.faults journal.new) }
     ensures source_faults { S.faults src.old ≤ S.faults src.new }
@@ -88,5 +89,6 @@ pub fn run<S: Source, K: Sink, J: Sink>(
     match request {
         Request::Run(opts) => run_source(alloc, opts, src, out, journal),
         Request::Load(asked) => load(alloc, asked, out, journal),
+        Request::Check => check(alloc, src, out),
     }
 }

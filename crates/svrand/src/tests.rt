@@ -90,7 +90,7 @@ const SCRIPT: &[u8] =
 const LINES: &[u8] = b"#1 p 1 a=5\n#2 p 1 a=5\n#3 p 1 a=5\n";
 
 const USAGE: &[u8] =
-    b"usage: svrand run [--seed N] [--budget N] [--size-cap N] [--proofs]\n       svrand load N [--seed N] [--budget N] [--size-cap N] [--proofs]\n";
+    b"usage: svrand run [--seed N] [--budget N] [--size-cap N] [--proofs]\n       svrand load N [--seed N] [--budget N] [--size-cap N] [--proofs]\n       svrand check\n";
 
 const PLAIN: Case<'static> = Case {
     words: &["run"],
@@ -101,7 +101,7 @@ const PLAIN: Case<'static> = Case {
 };
 
 // Words, and what a run with them ends with and prints.
-const WORDS: [(&[&str], Status, &[u8]); 28] = [
+const WORDS: [(&[&str], Status, &[u8]); 31] = [
     (&["run"], Status::AllOne, LINES),
     (&["run", "--seed", "0042"], Status::AllOne, LINES),
     (&["run", "--seed=42"], Status::AllOne, LINES),
@@ -159,6 +159,9 @@ const WORDS: [(&[&str], Status, &[u8]); 28] = [
     (&["run", "--proofs=true"], Status::Usage, USAGE),
     (&["run", "--help"], Status::Usage, USAGE),
     (&["run", "1"], Status::Usage, USAGE),
+    (&["check", "1"], Status::Usage, USAGE),
+    (&["check", "--seed", "1"], Status::Usage, USAGE),
+    (&["check", "--help"], Status::Usage, USAGE),
 ];
 
 #[test]
@@ -450,12 +453,79 @@ fn refusals(rt: HostRuntime) -> Result<(), Fail> {
     Ok(())
 }
 
+const CHECK: &[&str] = &["check"];
+
+// Clauses with a derivation from them: how a check ends, and what it prints.
+const CHECKS: [(&[u8], Status, &[u8]); 11] = [
+    (
+        b"p cnf 2 3\n1 2 0\n-1 2 0\n-2 0\n4 2 0 2 1 0\n5 0 3 4 0\n",
+        Status::AllOne,
+        b"accepted\n",
+    ),
+    (
+        b"p cnf 2 3\n1 2 0\n-1 2 0\n-2 0\n4 2 0 2 3 0\n5 0 3 4 0\n",
+        Status::SomeZero,
+        b"rejected 4 short\n",
+    ),
+    (
+        b"p cnf 2 3\n1 2 0\n-1 2 0\n-2 0\n4 2 0 2 1 0\n",
+        Status::SomeZero,
+        b"rejected 0 unfinished\n",
+    ),
+    (
+        b"p cnf 1 2 1 0 -1 0 2 0 1 2 0",
+        Status::SomeZero,
+        b"rejected 2 order\n",
+    ),
+    (
+        b"p cnf 1 2 1 0 -1 0 3 0 1 -2 0",
+        Status::SomeZero,
+        b"rejected 3 negative\n",
+    ),
+    (
+        b"p cnf 1 2 1 0 -1 0 3 0 1 9 0",
+        Status::SomeZero,
+        b"rejected 3 hint\n",
+    ),
+    (
+        b"p cnf 2 1 1 2 0 2 0 1 0",
+        Status::SomeZero,
+        b"rejected 2 open\n",
+    ),
+    (
+        b"p cnf 1 1 1 0 7 d 2 0",
+        Status::SomeZero,
+        b"rejected 7 delete\n",
+    ),
+    (
+        b"p cnf 2 3\n1 2 0\n-1 2 0\n-2 0\n4 2 0 2 1 0\n5 0 3\n",
+        Status::Refused,
+        b"refused 7:1 29\n",
+    ),
+    (b"", Status::Refused, b"refused 1:1 29\n"),
+    (b"p cnf 1 1\n-2 0\n", Status::Refused, b"refused 2:1 30\n"),
+];
+
+#[test]
+fn checks(rt: HostRuntime) -> Result<(), Fail> {
+    for (i, (text, status, written)) in CHECKS.iter().enumerate() {
+        let asked = Case {
+            words: CHECK,
+            text: *text,
+            ..PLAIN
+        };
+        assert!(rt; says(rt.alloc(), &asked, *status, written)?, "check {i}");
+    }
+    Ok(())
+}
+
 const NESTED: &[u8] = b"rand bit a; constraint c { a == ";
 
-// A text of parts, each so many times: how the run ends, and what it prints.
-const LONG: [(&[(&[u8], usize)], Status, &[u8]); 4] = [
+// Words, and a text of parts, each so many times: how the run ends, and what it prints.
+const LONG: [(&[&str], &[(&[u8], usize)], Status, &[u8]); 5] = [
     // `a == 1`, the 1 within pairs of parentheses.
     (
+        &["run"],
         &[
             (CLASS, 1),
             (NESTED, 1),
@@ -471,6 +541,7 @@ const LONG: [(&[(&[u8], usize)], Status, &[u8]); 4] = [
         b"#1 p 1 a=1\n",
     ),
     (
+        &["run"],
         &[
             (CLASS, 1),
             (NESTED, 1),
@@ -485,9 +556,21 @@ const LONG: [(&[(&[u8], usize)], Status, &[u8]); 4] = [
         Status::Refused,
         b"refused 2:158 6\n",
     ),
-    (&[(b" ", 4_194_305)], Status::Refused, b"refused 0:0 27\n"),
+    (
+        &["run"],
+        &[(b" ", 4_194_305)],
+        Status::Refused,
+        b"refused 0:0 27\n",
+    ),
+    (
+        &["check"],
+        &[(b" ", 4_194_305)],
+        Status::Refused,
+        b"refused 1:4194306 29\n",
+    ),
     // 122 items, each of weight 8,259.
     (
+        &["run"],
         &[
             (CLASS, 1),
             (
@@ -510,9 +593,10 @@ const LONG: [(&[(&[u8], usize)], Status, &[u8]); 4] = [
 
 #[test]
 fn long(rt: HostRuntime) -> Result<(), Fail> {
-    for (i, (parts, status, written)) in LONG.iter().enumerate() {
+    for (i, (words, parts, status, written)) in LONG.iter().enumerate() {
         let text = joined(rt.alloc(), parts)?;
         let asked = Case {
+            words: *words,
             text: &text,
             ..PLAIN
         };

@@ -18,7 +18,7 @@ returns-in-Err-TooLong-clause-extent g c =
     let taken : Takes (g.S.Source.left c.args.src.now) (g.S.Source.left c.read_text.new.src) (TEXT_LIMIT + 1) = c.in-Err-TooLong.ensures.too_long (ap (λ e. Err e) c.in-Err-TooLong.field-0-is) in
     let long : TEXT_LIMIT + 1 ≤ length text = read_some _ _ text (TEXT_LIMIT + 1) told taken in
     let more : TEXT_LIMIT < length text = omega arith in
-    refusal_read_text text _ _ _ _ _ _ _ more taken c.refuse.ensures.ends)
+    refusal_read_text TEXT_LIMIT text _ _ _ _ _ _ _ more taken c.refuse.ensures.ends)
 
 pub returns-in-Err-TooLong-clause-command : goal.returns-in-Err-TooLong-clause-command
 returns-in-Err-TooLong-clause-command g c = λ e. absurd (refusal_no_usage _ _ _ _ _ c.refuse.ensures.ends e)
@@ -26,7 +26,7 @@ returns-in-Err-TooLong-clause-command g c = λ e. absurd (refusal_no_usage _ _ _
 pub returns-in-Err-TooLong-clause-read : goal.returns-in-Err-TooLong-clause-read
 returns-in-Err-TooLong-clause-read g c =
     let taken : Takes (g.S.Source.left c.args.src.now) (g.S.Source.left c.read_text.new.src) (TEXT_LIMIT + 1) = c.in-Err-TooLong.ensures.too_long (ap (λ e. Err e) c.in-Err-TooLong.field-0-is) in
-    refusal_read _ _ _ _ _ _ _ taken c.refuse.ensures.ends
+    refusal_read TEXT_LIMIT _ _ _ _ _ _ _ taken c.refuse.ensures.ends
 
 -- ---- a text that was read
 

@@ -1,0 +1,12 @@
+use Rattle.std.proofs.Common.{◌≡◌, ◌+◌, ◌≤◌, drop, length}
+use Rattle.svr_refusal.specs.Place.{past}
+use Rattle.svr_lrat_text.specs.declared.limits.TheConstants.{MOST_TEXT}
+use Rattle.svr_check.proofs.place.place_in.Given as goal
+
+abbrev pub invariant-loop-byte : goal.invariant-loop-byte
+invariant-loop-byte l = record {
+  place : past (record { line = l.line; column = l.column }) (drop l.byte-index l.front) ≡ past (record { line = 1; column = 1 }) l.front;
+  line : l.line ≤ l.byte-index + 1;
+  column : l.column ≤ l.byte-index + 1;
+  small : length l.front ≤ MOST_TEXT;
+}

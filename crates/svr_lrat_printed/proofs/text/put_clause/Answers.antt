@@ -1,0 +1,8 @@
+use Rattle.std.proofs.Common.{◌≡◌, ◌++◌, codes, rules}
+use Rattle.svr_lrat_printed.proofs.Parts.{two}
+use Rattle.svr_lrat_printed.proofs.text.put_clause.Goals as goal
+
+pub returns : goal.returns
+returns c =
+    let last : c.put.new.text.items ≡ c.put_lits.new.text.items ++ codes "0\n" = search rules in
+    two _ _ _ _ _ c.in_ok-put_lits.ensures last
