@@ -1,0 +1,5 @@
+pub mod Runs
+mod Rests
+pub mod Exact
+pub mod Way
+pub mod Few
