@@ -1,0 +1,242 @@
+#!/usr/bin/env python3
+"""Runs texts of the kinds that are slowest for a layer, and prints time and memory as a table.
+
+    tools/hostile.py PROGRAM [KIB ..]         sizes in KiB; 1024, 2048 and 4096 where none is given
+    tools/hostile.py --write FOLDER [KIB ..]  writes the texts and runs nothing
+
+Each text has the size that is asked for, to the byte, and is answered or refused. Times are processor seconds (user
+and system) of one run, memory the greatest resident set, which is at least that of this script; a run is ended after
+21 seconds, and its row then says `ended`, and greater texts of that kind are not run. It is given 4 GB, beyond which
+memory is wanting (status 8).
+"""
+import os
+import pathlib
+import resource
+import subprocess
+import sys
+
+LIMIT_SECONDS = 21
+LIMIT_BYTES = 4 << 30
+
+
+def script(classes, statements, variables="P p = new;\n"):
+    return f"{classes}module m;\n{variables}initial begin\n{statements}end\nendmodule\n"
+
+
+def filled(size, front, part, back):
+    """A text of this size: a front, parts by their number as far as they go, blanks, a back."""
+    parts, room, number = [], size - len(front) - len(back), 0
+    while True:
+        more = part(number)
+        if len(more) > room:
+            return front + "".join(parts) + " " * (room - 1) + "\n" + back if room else front + "".join(parts) + back
+        parts.append(more)
+        room -= len(more)
+        number += 1
+
+
+def items(size, properties, part):
+    """A class with these properties and one block of items, and a call."""
+    front = f"class P;\n{properties}constraint c {{\n"
+    return filled(size, front, part, script("}\nendclass\n", "p.randomize();\n"))
+
+
+def comment(size):
+    front, back = "/*", "*/\n" + script("class P;\nendclass\n", "p.randomize();\n")
+    return front + "x" * (size - len(front) - len(back)) + back
+
+
+def name(size):
+    """A class whose name stands twice."""
+    rest = len(script("class ;\nendclass\n", "p.randomize();\n", " p = new;\n"))
+    long = "x" * ((size - rest) // 2)
+    text = script(f"class {long};\nendclass\n", "p.randomize();\n", f"{long} p = new;\n")
+    return text + " " * (size - len(text))
+
+
+def properties(size):
+    """1,024 properties, and sums of 60 of them."""
+    names = [f"p{i}" for i in range(1024)]
+    declared = "".join(f"rand bit [7:0] {it};\n" for it in names)
+
+    def part(k):
+        return "(" + " ^ ".join(names[(7 * k + 13 * j) % 1024] for j in range(60)) + ") <= 8'hff;\n"
+
+    return items(size, declared, part)
+
+
+def variables(size):
+    """4,096 variables, each with a sum of 40 operands, as long as the text lets them be."""
+    digits = (size - 60_000) // 4096 // 40 - 3
+    total = " + ".join(["0" * (digits - 1) + "1"] * 40)
+    declared = "".join(f"int v{i} = {total};\n" for i in range(4095))
+    text = script("class P;\nendclass\n", "p.randomize();\n", declared + "P p = new;\n")
+    return text + " " * (size - len(text))
+
+
+def statements(size):
+    """A statement of 41 bytes for each 42 bytes of the text: just under 100,000 at 4 MiB."""
+    front = "class P;\nbit [7:0] a;\nendclass\nmodule m;\nP p = new;\ninitial begin\n"
+    return filled(size, front, lambda k: "p.a = p.a + 3 * (p.a ^ 8'd17) - 5 + 0007;\n", "p.randomize();\nend\nendmodule\n")
+
+
+def calls(size):
+    """As many calls as statements above."""
+    front = "class P;\nrand bit [7:0] a, b;\nconstraint c { a < b; }\nendclass\nmodule m;\nP p = new;\ninitial begin\n"
+    return filled(size, front, lambda k: "p.randomize() with { a + b != 100 + 1; };\n\n", "end\nendmodule\n")
+
+
+def arrays(size):
+    """Arrays of 2,048 elements each, 32 at 4 MiB, with an item for each element."""
+    count = max(1, size // 131_072)
+    declared = "".join(f"rand bit [7:0] d{i} [2048];\nconstraint c{i} {{ foreach (d{i}[k]) d{i}[k] < 8'd200; }}\n" for i in range(count))
+    text = script(f"class P;\n{declared}endclass\n", "p.randomize();\n")
+    return text + " " * (size - len(text))
+
+
+def loops(size):
+    """Items within 246 loops each, as many as their height lets be, over an array of one element."""
+    def part(k):
+        around = "".join(f"foreach(a[i{n},j{n}])" for n in range(123))
+        return f"{around}a[i{k % 123}][j0]<2;\n"
+
+    return items(size, "rand bit a [1][1];\n", part)
+
+
+def parentheses(size):
+    """Items of the greatest height."""
+    return items(size, "rand bit a;\n", lambda k: "(" * 124 + "a" + ")" * 124 + "<=1;\n")
+
+
+def classes(size):
+    """A chain of classes, each of which extends the one before it."""
+    back = script("", "p.randomize();\n", "C0 p = new;\n")
+    return filled(size, "class C0;\nendclass\n", lambda k: f"class C{k + 1} extends C{k};\nendclass\n", back)
+
+
+def grown_classes(size):
+    """A chain of classes, each of which adds a block to those that it inherits."""
+    back = script("", "p.randomize();\n", "C0 p = new;\n")
+    return filled(size, "class C0;\nendclass\n", lambda k: f"class C{k + 1} extends C{k};\nconstraint c{k} {{}}\nendclass\n", back)
+
+
+def blocks(size):
+    """Blocks of one class."""
+    front = "class P;\nrand bit a;\n"
+    return filled(size, front, lambda k: f"constraint c{k} {{ a <= 1; }}\n", script("endclass\n", "p.randomize();\n"))
+
+
+def replaced(size):
+    """Blocks of a class, each of which a derived class replaces."""
+    half = size // 2
+    one = filled(half, "class B;\nrand bit a;\n", lambda k: f"constraint c{k} {{}}\n", "endclass\n")
+    return filled(size, one + "class P extends B;\n", lambda k: f"constraint c{k} {{}}\n", script("endclass\n", "p.randomize();\n"))
+
+
+def solves(size):
+    """An order over 1,024 properties, each pair named many times."""
+    names = [f"p{i}" for i in range(1024)]
+    declared = "".join(f"rand bit {it};\n" for it in names)
+    return items(size, declared, lambda k: f"solve {names[k * 7 % 1023]} before {names[1 + k * 7 % 1023]};\n")
+
+
+def uniques(size):
+    """One `unique` of many members."""
+    front = "class P;\nrand bit [7:0] a;\nconstraint c { unique {\n"
+    return filled(size, front, lambda k: "a,\n", "a}; }\nendclass\nmodule m;\nP p = new;\ninitial begin\np.randomize();\nend\nendmodule\n")
+
+
+def softs(size):
+    """Soft items that contradict each other, as many as the limit of weight lets be at 4 MiB."""
+    count = size // 210
+    parts = "".join(f"soft a == 8'd{k % 256};\n" for k in range(count))
+    text = script(f"class P;\nrand bit [7:0] a;\nconstraint c {{\n{parts}}}\nendclass\n", "p.randomize();\n")
+    return text + " " * (size - len(text))
+
+
+def disables(size):
+    """Soft items, and items that take them away, in turn."""
+    return items(size, "rand bit [7:0] a;\n", lambda k: "soft a == 8'd3;disable soft a;\n" if k % 64 == 0 else "disable soft a;\n")
+
+
+def members(size):
+    """One set of many members."""
+    front = "class P;\nrand bit [31:0] a;\nconstraint c { a inside {\n"
+    return filled(size, front, lambda k: f"{k},\n", "7}; }\nendclass\nmodule m;\nP p = new;\ninitial begin\np.randomize();\nend\nendmodule\n")
+
+
+def searched_members(size):
+    """One set of as many members as the limit of weight lets be at 4 MiB, which the preferred value is not in."""
+    listed = ", ".join(str(k) for k in range(size // 140))
+    text = script(f"class P;\nrand bit [31:0] a;\nconstraint c {{ a inside {{{listed}}}; }}\nendclass\n", "p.randomize();\n")
+    return text + " " * (size - len(text))
+
+
+def cyclic(size):
+    """Cyclic properties whose values an item leaves one of: 1,024 at 4 MiB."""
+    count = size // 4096
+    declared = "".join(f"randc bit [7:0] p{i};\n" for i in range(count))
+    held = "".join(f"p{i} == 8'd{i % 256};\n" for i in range(count))
+    text = script(f"class P;\n{declared}constraint c {{\n{held}}}\nendclass\n", "p.randomize();\n")
+    return text + " " * (size - len(text))
+
+
+KINDS = [comment, name, properties, variables, statements, calls, arrays, loops, parentheses, classes, grown_classes, blocks, replaced, solves, uniques, softs, disables, members, searched_members, cyclic]
+
+
+def text_of(kind, size):
+    text = kind(size)
+    if len(text) != size:
+        sys.exit(f"{kind.__name__}: {len(text)} bytes in place of {size}")
+    return text.encode()
+
+
+def told(out):
+    """The last line that was written, and how long it is, where it is long."""
+    lines = out.decode().splitlines()
+    last = lines[-1] if lines else ""
+    return last if len(last) <= 40 else f"{last[:24]}.. ({len(last):,} bytes)"
+
+
+def run(program, text):
+    """What a run tells, its status, its processor seconds and its greatest memory in MB."""
+    def limit():
+        resource.setrlimit(resource.RLIMIT_CPU, (LIMIT_SECONDS, LIMIT_SECONDS))
+        resource.setrlimit(resource.RLIMIT_DATA, (LIMIT_BYTES, LIMIT_BYTES))
+
+    file = pathlib.Path("/tmp") / f"hostile-{os.getpid()}.sv"
+    file.write_bytes(text)
+    with open(file, "rb") as source:
+        child = subprocess.Popen([program, "run"], stdin=source, stdout=subprocess.PIPE, preexec_fn=limit)
+        out = child.stdout.read()
+        _, status, usage = os.wait4(child.pid, 0)
+    child.returncode = os.waitstatus_to_exitcode(status)
+    file.unlink()
+    return told(out), child.returncode, usage.ru_utime + usage.ru_stime, usage.ru_maxrss / 1024
+
+
+def main():
+    if len(sys.argv) < 2:
+        sys.exit(__doc__)
+    is_written = sys.argv[1] == "--write"
+    target, *sizes = sys.argv[2:] if is_written else sys.argv[1:]
+    sizes = [int(kib) * 1024 for kib in sizes] or [1 << 20, 1 << 21, 1 << 22]
+    if is_written:
+        folder = pathlib.Path(target)
+        folder.mkdir(parents=True, exist_ok=True)
+        for kind in KINDS:
+            for size in sizes:
+                (folder / f"{kind.__name__}_{size // 1024}.sv").write_bytes(text_of(kind, size))
+        return
+    print("| kind | KiB | what it tells | status | seconds | MB |\n|---|---|---|---|---|---|")
+    for kind in KINDS:
+        for size in sizes:
+            line, status, seconds, memory = run(target, text_of(kind, size))
+            end = f"`{line}` | {status}" if status >= 0 else "ended | "
+            print(f"| {kind.__name__} | {size // 1024:,} | {end} | {seconds:.2f} | {memory:.0f} |", flush=True)
+            if status < 0:
+                break
+
+
+if __name__ == "__main__":
+    main()

@@ -1,0 +1,121 @@
+#!/usr/bin/env python3
+"""Refuses each allocation of some runs in turn, and looks at how they end.
+
+    tools/sweep-allocations.py PROGRAM
+
+PROGRAM is the built program, as crates/svrand/out/svrand. A library that stands before the C library refuses the
+allocation of a number. Each run with a refused allocation has to end with status 8, and what it has written has to be a
+front of what the run writes where nothing is refused. Prints a line for each script; the exit status is 1 where a run
+ends otherwise. It needs a C compiler (cc).
+"""
+import os
+import pathlib
+import subprocess
+import sys
+import tempfile
+
+SHIM = r"""
+#define _GNU_SOURCE
+#include <errno.h>
+#include <fcntl.h>
+#include <stdio.h>
+#include <stdlib.h>
+#include <string.h>
+#include <unistd.h>
+
+extern void *__libc_malloc(size_t), *__libc_calloc(size_t, size_t), *__libc_realloc(void *, size_t), *__libc_memalign(size_t, size_t);
+static unsigned long refused, seen;
+static int on;
+
+__attribute__((constructor)) static void begin(void) {
+    const char *number = getenv("REFUSED");
+    refused = number ? strtoul(number, 0, 10) : 0;
+    on = 1;
+}
+
+__attribute__((destructor)) static void end(void) {
+    const char *path = getenv("COUNTED");
+    char text[32];
+    int file;
+    on = 0;
+    if (path && (file = open(path, O_WRONLY | O_CREAT | O_TRUNC, 0600)) >= 0) {
+        int length = snprintf(text, sizeof text, "%lu", seen);
+        if (write(file, text, length) < 0) _exit(99);
+        close(file);
+    }
+}
+
+static int is_refused(void) {
+    if (!on || ++seen != refused) return 0;
+    errno = ENOMEM;
+    return 1;
+}
+
+void *malloc(size_t n) { return is_refused() ? 0 : __libc_malloc(n); }
+void *calloc(size_t n, size_t m) { return is_refused() ? 0 : __libc_calloc(n, m); }
+void *realloc(void *p, size_t n) { return is_refused() ? 0 : __libc_realloc(p, n); }
+void *memalign(size_t a, size_t n) { return is_refused() ? 0 : __libc_memalign(a, n); }
+void *aligned_alloc(size_t a, size_t n) { return is_refused() ? 0 : __libc_memalign(a, n); }
+int posix_memalign(void **p, size_t a, size_t n) {
+    if (is_refused()) return ENOMEM;
+    *p = __libc_memalign(a, n);
+    return *p ? 0 : ENOMEM;
+}
+"""
+
+MODULE = "module m;\ninitial begin\n{type} p = new;\n{calls}\nend\nendmodule\n"
+
+SCRIPTS = {
+    "a packet": """typedef enum bit [1:0] { READ, WRITE, IDLE } kind_t;
+class Packet;
+  rand kind_t kind;
+  rand int len;
+  rand bit [7:0] data [];
+  constraint c_len { len inside {[46:64]}; data.size() == len; }
+  constraint c_data { foreach (data[i]) data[i] == i; }
+endclass
+""" + MODULE.format(type="Packet", calls="assert (p.randomize() with { len == 46; kind == WRITE; });"),
+    "soft items": "class B;\nrand bit [3:0] x; constraint c { soft x == 1; }\nendclass\n"
+    "class D extends B;\nconstraint d { soft x == 2; }\nendclass\n"
+    + MODULE.format(type="D", calls="p.randomize() with { soft x == 3; };"),
+    "a cyclic property": "class P;\nrandc bit [1:0] a; constraint c { a == 0; }\nendclass\n"
+    + MODULE.format(type="P", calls="repeat (2) p.randomize();"),
+    "an answer 0": "class P;\nrand bit a, b, c; constraint u { unique {a, b, c}; }\nendclass\n"
+    + MODULE.format(type="P", calls="p.randomize();"),
+}
+
+
+def run(program, text, shim, **more):
+    env = {**os.environ, "LD_PRELOAD": str(shim), **more}
+    ended = subprocess.run([program, "run", "--proofs"], input=text.encode(), capture_output=True, env=env, check=False)
+    return ended.returncode, ended.stdout
+
+
+def sweep(program, text, shim, counted):
+    """How many allocations a run makes, and those with which it ends otherwise than it should."""
+    status, whole = run(program, text, shim, COUNTED=str(counted))
+    count, odd = int(counted.read_text()), []
+    for number in range(1, count + 1):
+        found, front = run(program, text, shim, REFUSED=str(number))
+        if found != 8 or not whole.startswith(front):
+            odd.append((number, found))
+    return status, count, odd
+
+
+def main():
+    if len(sys.argv) != 2:
+        sys.exit(__doc__)
+    program, is_clean = os.path.abspath(sys.argv[1]), True
+    with tempfile.TemporaryDirectory() as folder:
+        source, shim, counted = (pathlib.Path(folder) / name for name in ("shim.c", "shim.so", "counted"))
+        source.write_text(SHIM)
+        subprocess.run(["cc", "-O2", "-shared", "-fPIC", "-o", shim, source], check=True)
+        for name, text in SCRIPTS.items():
+            status, count, odd = sweep(program, text, shim, counted)
+            is_clean = is_clean and not odd
+            print(f"{name}: status {status}, {count} allocations, {count - len(odd)} of them refused with status 8 and a front", *odd[:10], flush=True)
+    return 0 if is_clean else 1
+
+
+if __name__ == "__main__":
+    sys.exit(main())
