@@ -1,7 +1,9 @@
-//! The tests of the lines that a `randsequence` prints.
+//! The tests of texts of `randsequence` and of the lines that they print.
 //!
 //! They stand apart, so that the layer is proved once.
 #![tactic(auto)]
 
 #[cfg(test)]
 mod lines;
+#[cfg(test)]
+mod texts;
