@@ -1,9 +1,9 @@
 -- Chosen values of cyclic random properties as literals: their variables rise, and a valuation that makes them true reads as an assignment that has the values.
-use Rattle.std.proofs.Common.{◌≡◌, ◌<◌, ◌≤◌, ◌==◌, ◌+◌, ◌/◌, ◌%◌, ◌^◌, ℕ, zero, suc, Bool, true, false, cond, ◌&&◌, ◌||◌, List, [], ◌∷◌, ◌++◌, map, length, sum, Option, None, Some, refl, sym, ap, ◌∙◌, subst, arith, append-nil, append_assoc, inl, inr}
-use Rattle.std.specs.Prelude.{⊤, filter, slice_index, slice_index_or, if◌then◌else◌}
+use Rattle.std.proofs.Common.{◌≡◌, ◌<◌, ◌≤◌, ◌==◌, ◌+◌, ◌/◌, ◌%◌, ◌^◌, ℕ, zero, suc, Bool, true, false, cond, ◌&&◌, ◌||◌, List, [], ◌∷◌, ◌++◌, map, length, sum, Option, Some, refl, sym, ap, ◌∙◌, subst, arith, append-nil, append_assoc}
+use Rattle.std.specs.Prelude.{⊤, filter, if◌then◌else◌}
 use Rattle.std.specs.List.{All, list_any, list_all, flat_map, range_with_len}
 use Rattle.std.proofs.Math.Nat.{pow-suc}
-use Rattle.std.proofs.lemmas.Bool.{and_parts, or_cases, or_left, or_right, or_parts, not-true, eqb-true, eqb-false, eq-eqb, ne_eqb, false≢true}
+use Rattle.std.proofs.lemmas.Bool.{and_parts, or_left, or_right, or_parts, not-true, eqb-true, eqb-false, eq-eqb, ne_eqb, false≢true}
 use Rattle.std.proofs.lemmas.List.{map-append}
 use Rattle.std.proofs.lemmas.List.Elements.{All-head, All-tail}
 use Rattle.std.proofs.lemmas.List.Folds.{list_all-append, list_any-append}
@@ -13,20 +13,15 @@ use Rattle.svr_chain.specs.Clauses.{flip}
 use Rattle.svr_chain.specs.Valuations.{lit_value}
 use Rattle.svr_gate.specs.Numbers.{bit, number}
 use Rattle.svr_gate.proofs.NumberLemmas.{number-nil, number-cons, lit_value-flip}
-use Rattle.svr_typed.specs.declared.class.Prop.{Prop}
-use Rattle.svr_typed.specs.declared.class.EnumType.{EnumType}
-use Rattle.svr_typed.specs.declared.class.EnumMember.{EnumMember}
 use Rattle.svr_typed.specs.ExprTerm.{ExprTerm}
 use Rattle.svr_frame.specs.declared.part.Part.{Part}
 use Rattle.svr_frame.specs.declared.part.Part.TheVariants.{Randc, Sizes, All as Whole}
 use Rattle.svr_frame.specs.declared.slot.Slot.{Slot}
 use Rattle.svr_frame.specs.declared.slot.Slot.TheVariants.{Scalar}
-use Rattle.svr_frame.specs.Frame.{FrameTerm, is_cyclic, width_of, members_of_kind, domain_from, domain_of, state_at}
+use Rattle.svr_frame.specs.Frame.{FrameTerm, is_cyclic, width_of, domain_of, state_at}
 use Rattle.svr_frame.specs.Phases.{cyclic_slots, size_slots, scalar_slots, element_slots, unknowns_of}
 use Rattle.svr_frame.specs.Satisfaction.{is_at, AreFixed, IsAssignment}
-use Rattle.svr_frame.specs.Sound.{IsOfEnum, IsSound, SizesFit}
-use Rattle.svr_draw.proofs.Parts.{any_prop}
-use Rattle.svr_draw.proofs.Fits.{width_at}
+use Rattle.svr_frame.specs.Sound.{IsSound, SizesFit}
 use Rattle.svr_inputs.specs.Inputs.{read_or}
 use Rattle.svr_encoded.specs.declared.encoded.Encoded.{Encoded}
 use Rattle.svr_encoded.specs.Slots.{bits_where, bits_of_slot, positives, positive_bits, widths_of}
@@ -37,6 +32,7 @@ use Rattle.svr_phase.specs.Chosen.{AreCyclicValues}
 use Rattle.svr_phase.specs.Cyclic.{is_among}
 use Rattle.svr_phase.specs.Ends.{cyclic_props}
 use Rattle.svr_phase.specs.Proof.{spelling, spelling_at, fixed_lits}
+use Rattle.svr_phase.proofs.ChosenValues.{value_below}
 
 -- ---- spelled numbers
 
@@ -153,55 +149,6 @@ any_scalar : (p : ℕ) (ps : List ℕ) → list_any (is_at p 0) (map Scalar ps) 
 any_scalar p [] = refl
 any_scalar p (q ∷ ps) = λ i. and_true (q == p) i || any_scalar p ps i
 
--- ---- values of a domain
-
-below_end : (v a n : ℕ) → is_among v (range_with_len a n) ≡ true → v < a + n
-below_end v a zero h = absurd (false≢true h)
-below_end v a (suc n) h =
-    elim (or_cases (a == v) (is_among v (range_with_len (a + 1) n)) h) [
-      | inl e ↦ let same = eqb-true a v e in omega (arith, same)
-      | inr e ↦ let rest = below_end v (a + 1) n e in omega (arith, rest)
-    ]
-
-member_below : (w : ℕ) (ms : List EnumMember) (v : ℕ) → All (λ (m : EnumMember). m.value < 2 ^ w) ms → is_among v (map (λ (m : EnumMember). m.value) ms) ≡ true → v < 2 ^ w
-member_below w [] v a h = absurd (false≢true h)
-member_below w (m ∷ ms) v a h =
-    elim (or_cases (m.value == v) (is_among v (map (λ (m : EnumMember). m.value) ms)) h) [
-      | inl e ↦ subst (λ (x : ℕ). x < 2 ^ w) (eqb-true m.value v e) (All-head (λ (m : EnumMember). m.value < 2 ^ w) m ms a)
-      | inr e ↦ member_below w ms v (All-tail (λ (m : EnumMember). m.value < 2 ^ w) m ms a) e
-    ]
-
-any_enum : EnumType
-any_enum = record { base = record { width = 1; signed = false; members = None }; members = [] }
-
-kind_at : (xs : List Prop) (p e : ℕ) → slice_index_or (map (λ (x : Prop). x.kind.members) xs) p None ≡ Some e → (p < length xs) × ((slice_index_or xs p any_prop).kind.members ≡ Some e)
-kind_at [] p e h = cc
-kind_at (x ∷ xs) zero e h = (omega arith, h)
-kind_at (x ∷ xs) (suc p) e h = let rest = kind_at xs p e h in (omega (arith, rest.0), rest.1)
-
-base_at : (ts : List EnumType) (e : ℕ) → e < length ts → slice_index (map (λ (t : EnumType). t.base.width) ts) e ≡ (slice_index_or ts e any_enum).base.width
-base_at [] e h = absurd (omega (arith, h))
-base_at (t ∷ ts) zero h = refl
-base_at (t ∷ ts) (suc e) h = base_at ts e (omega (arith, h))
-
-values_at : (ts : List EnumType) (e : ℕ) → e < length ts → slice_index_or (map (λ (t : EnumType). map (λ (m : EnumMember). m.value) t.members) ts) e [] ≡ map (λ (m : EnumMember). m.value) (slice_index_or ts e any_enum).members
-values_at [] e h = absurd (omega (arith, h))
-values_at (t ∷ ts) zero h = refl
-values_at (t ∷ ts) (suc e) h = values_at ts e (omega (arith, h))
-
--- a value of the domain of a property is a number of its bits
-pub domain_below : (f : FrameTerm) → IsSound f → (p v : ℕ) → is_among v (domain_of f p) ≡ true → v < 2 ^ width_of f p
-domain_below f sound p v h = by_kind (slice_index_or (map (λ (x : Prop). x.kind.members) f.class.props) p None) refl h
-  where
-    by_kind : (k : Option ℕ) → slice_index_or (map (λ (x : Prop). x.kind.members) f.class.props) p None ≡ k → is_among v (domain_from f (width_of f p) (members_of_kind f k)) ≡ true → v < 2 ^ width_of f p
-    by_kind None e among = let lt = below_end v 0 (2 ^ width_of f p) among in omega (arith, lt)
-    by_kind (Some n) e among =
-        let there = kind_at f.class.props p n e in
-        let named = subst (IsOfEnum f.enums (slice_index_or f.class.props p any_prop).kind) there.1 ((sound.props p any_prop there.0).named) in
-        let wide : width_of f p ≡ (slice_index_or f.enums n any_enum).base.width = width_at f.class.props p there.0 ∙ sym named.1 ∙ base_at f.enums n named.0 in
-        subst (λ (w : ℕ). v < 2 ^ w) (sym wide)
-        (member_below (slice_index_or f.enums n any_enum).base.width (slice_index_or f.enums n any_enum).members v (sound.types n any_enum named.0).below (sym (ap (is_among v) (values_at f.enums n named.0)) ∙ among))
-
 abbrev pub IsMember : FrameTerm → ℕ × ℕ → Type 0
 IsMember f c = is_among c.1 (domain_of f c.0) ≡ true
 
@@ -233,7 +180,7 @@ module _ (f : FrameTerm) (part : Part) (sizes : List ℕ) (k : ℕ) (sound : IsS
       (sym (list_all-append (lit_value v) (spelling_at (bits_where (is_at x.0 0) slots bits) x.1) (spelled_in slots bits fixed)) ∙ h) in
       let own : list_all (lit_value v) (spelling some.0 x.1) ≡ true = subst (λ (o : Option (List Lit)). list_all (lit_value v) (spelling_at o x.1) ≡ true) some.1 parts.0 in
       let low : x.1 < 2 ^ length some.0
-      = subst (λ (w : ℕ). x.1 < 2 ^ w) (sym (slot.2 ∙ at_width f k x.0 0 slot.0 slot.1)) (domain_below f sound x.0 x.1 (All-head (IsMember f) x fixed members)) in (
+      = subst (λ (w : ℕ). x.1 < 2 ^ w) (sym (slot.2 ∙ at_width f k x.0 0 slot.0 slot.1)) (value_below f sound x.0 x.1 (All-head (IsMember f) x fixed members)) in (
         ap (read_or ((state_at f sizes).element x.0 0) v) some.1 ∙ reads_spelled v some.0 x.1 low own,
         reads_fixed v fixed (λ p e. there p (or_right (x.0 == p) (list_any (λ q. q == p) (props_in fixed)) e)) (All-tail (IsMember f) x fixed members) parts.1,
       )

@@ -1,7 +1,6 @@
 // Places of a text.
-ghost use Rattle.std.specs.Prelude.{◌≡◌, ◌≤◌, length};
+ghost use Rattle.std.specs.Prelude.{◌≡◌, ◌<◌, length};
 ghost use Rattle.svr_refusal.specs.Place as spec;
-ghost use Rattle.svr_limits.specs.declared.limit.TheConstants.{TEXT_LIMIT};
 
 use svr_token::Token;
 
@@ -12,10 +11,10 @@ pub struct Place {
     pub column: u32,
 }
 
-/// The place of the byte of this number, counted from 0. As many as there are bytes: the end of the text.
+/// The place of the byte of this number, counted from 0, in a text whose lines and columns 32 bits hold. As many as there are bytes: the end of the text.
 #[tactic(auto, using(std::proofs::lemmas::List::take_min))]
 pub fn place_of(text: &[u8], at: usize) -> Place
-    requires { length text.now ≤ TEXT_LIMIT }
+    requires { length text.now < 4294967295 }
     ensures { result ≡ spec.place_of text.now at }
 {
     let front = &text[..at.min(text.len())];

@@ -1,9 +1,9 @@
-// Why a script is refused.
+// Why a text is refused.
 
 ghost use Rattle.std.specs.Prelude.{◌≡◌};
 ghost use Rattle.svr_refusal.specs.Numbers as spec;
 
-/// Why a script is refused. Each says where it stands.
+/// Why a text is refused. Each says where it stands.
 #[derive(Clone, Copy, Debug, PartialEq, Eq)]
 pub enum Refusal {
     /// A byte that begins no lexeme and no gap, or `$` before a letter or `_` that is no system name: the byte.
@@ -58,14 +58,24 @@ pub enum Refusal {
     TooMany,
     /// An object variable that is used before a `new` for it: the name of the variable.
     NullObject,
-    /// A text of over 4,194,304 bytes. It has no place.
+    /// A text that is longer than its command reads: a script of over 4,194,304 bytes, a hinted derivation of over 67,108,864. It has no place.
     TooLong,
-    /// A script that is read, and that this program does not answer yet. It has no place.
-    NotAnswered,
+    /// A token, or the end of the text, with which no hinted derivation goes on.
+    NoDerivation,
+    /// A number of a hinted derivation that is over its limit, or a variable that its header does not count: the number.
+    DerivationTooLarge,
+    /// A token, or the end of the text, with which no `randsequence` text goes on.
+    NoSequence,
+    /// A name that no production has, where one is expanded or begun with; a second production of one name: the name.
+    UnknownProduction,
+    /// A production whose rules all have weight 0: its name.
+    NoWeight,
+    /// A limit of a `randsequence` text that is passed: the first token of what passes it.
+    SequenceTooLarge,
 }
 
 impl Refusal {
-    /// The number under which a refusal is printed, from 1 to 28.
+    /// The number under which a refusal is printed: from 1 to 27 for a script, 29 and 30 for a hinted derivation, from 36 to 39 for a `randsequence` text.
     pub fn number(self) -> u8
         ensures { result ≡ spec.number_of self }
     {
@@ -97,7 +107,12 @@ impl Refusal {
             Refusal::TooMany => 25,
             Refusal::NullObject => 26,
             Refusal::TooLong => 27,
-            Refusal::NotAnswered => 28,
+            Refusal::NoDerivation => 29,
+            Refusal::DerivationTooLarge => 30,
+            Refusal::NoSequence => 36,
+            Refusal::UnknownProduction => 37,
+            Refusal::NoWeight => 38,
+            Refusal::SequenceTooLarge => 39,
         }
     }
 }

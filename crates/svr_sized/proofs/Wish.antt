@@ -21,7 +21,8 @@ use Rattle.svr_draw.proofs.Fits.{preferred_is}
 use Rattle.svr_phase.specs.Chosen.{AreCyclicValues}
 use Rattle.svr_phase.specs.Sizes.{words_after, preferred_with}
 use Rattle.svr_phase.proofs.Preferred.{slots_with, same_sizes_in}
-use Rattle.svr_question.proofs.Chosen.{props_in, IsMember, domain_below, all_members}
+use Rattle.svr_phase.proofs.ChosenValues.{value_below}
+use Rattle.svr_question.proofs.Chosen.{props_in, IsMember, all_members}
 
 -- ---- numbers at the places of cyclic properties
 
@@ -30,7 +31,7 @@ below_in f sound [] members p i other lt = lt
 below_in f sound (x ∷ fixed) members p i other lt = by_test (is_at p i (Scalar x.0)) refl (below_in f sound fixed (All-tail (IsMember f) x fixed members) p i other lt)
   where
     by_test : (b : Bool) → is_at p i (Scalar x.0) ≡ b → number_in (slots_with fixed) p i other < 2 ^ width_of f p → (if b then x.1 else number_in (slots_with fixed) p i other) < 2 ^ width_of f p
-    by_test true e rest = subst (λ (q : ℕ). x.1 < 2 ^ width_of f q) (eqb-true x.0 p (and_parts _ _ e).0) (domain_below f sound x.0 x.1 (All-head (IsMember f) x fixed members))
+    by_test true e rest = subst (λ (q : ℕ). x.1 < 2 ^ width_of f q) (eqb-true x.0 p (and_parts _ _ e).0) (value_below f sound x.0 x.1 (All-head (IsMember f) x fixed members))
     by_test false e rest = rest
 
 same_in : (fixed : List (ℕ × ℕ)) (p i other : ℕ) → list_any (is_at p i) (map Scalar (props_in fixed)) ≡ false → number_in (slots_with fixed) p i other ≡ other
