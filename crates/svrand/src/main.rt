@@ -4,27 +4,13 @@
 //! All that it does is `run`, whose contract says what is written, and with which status it ends, by the words and the text alone.
 #![tactic(auto)]
 
-mod answer;
-mod check;
-mod command;
-mod design;
-mod finish;
-mod laws;
-mod line;
-mod load;
-mod refusal;
-mod run;
-mod status;
-#[cfg(test)]
-mod tests;
-
-use run::run;
-use status::Status;
 use std::alloc::AllocError;
 use std::env;
 use std::io::ErrorKind;
 use std::process::ExitCode;
 use svr_edge::{NullSink, StdSink, StdSource};
+use svr_program::run;
+use svr_status::Status;
 
 /// The words behind the program's name. None where the system does not give them.
 fn words(rt: &HostRuntime) -> Result<Vec<String>, AllocError> {

@@ -1,0 +1,64 @@
+use Rattle.std.proofs.Common.{arith, rules, ap, Err, ◌≡◌, ◌<◌, ◌≤◌, ◌+◌, length}
+use Rattle.svr_edge.specs.Known.{Takes}
+use Rattle.svr_lrat_text.specs.declared.limits.TheConstants.{MOST_TEXT}
+use Rattle.svr_status.proofs.Told.{if_told, read_all, read_some, refusal_read, refusal_read_text, refusal_no_usage}
+use Rattle.svr_command_check.proofs.Checks.{checks_told, long_told, nothing_told, fault_told, checks_read, checks_read_text, checks_no_usage, checks_no_read_fault, checks_cause}
+use Rattle.svr_command_check.proofs.check.check_source.Goals as goal
+
+-- ---- a text that is too long
+
+pub returns-in-Err-TooLong-clause-writing : goal.returns-in-Err-TooLong-clause-writing
+returns-in-Err-TooLong-clause-writing g c = λ journal n.
+    let taken : Takes (g.S.Source.left c.args.src.now) (g.S.Source.left c.read_text.new.src) (MOST_TEXT + 1) = c.in-Err-TooLong.ensures.too_long (ap (λ e. Err e) c.in-Err-TooLong.field-0-is) in
+    long_told (g.S.Source.left c.args.src.now) (g.S.Source.left c.read_text.new.src) c.refuse.result _ _ journal _ _ n _ taken c.refuse.ensures.ends
+
+pub returns-in-Err-TooLong-clause-extent : goal.returns-in-Err-TooLong-clause-extent
+returns-in-Err-TooLong-clause-extent g c =
+    if_told (g.S.Source.left c.args.src.now) _ (λ text told.
+    let taken : Takes (g.S.Source.left c.args.src.now) (g.S.Source.left c.read_text.new.src) (MOST_TEXT + 1) = c.in-Err-TooLong.ensures.too_long (ap (λ e. Err e) c.in-Err-TooLong.field-0-is) in
+    let long : MOST_TEXT + 1 ≤ length text = read_some _ _ text (MOST_TEXT + 1) told taken in
+    let more : MOST_TEXT < length text = omega arith in
+    refusal_read_text MOST_TEXT text _ _ _ _ _ _ _ more taken c.refuse.ensures.ends)
+
+pub returns-in-Err-TooLong-clause-command : goal.returns-in-Err-TooLong-clause-command
+returns-in-Err-TooLong-clause-command g c = λ e. absurd (refusal_no_usage _ _ _ _ _ c.refuse.ensures.ends e)
+
+pub returns-in-Err-TooLong-clause-read : goal.returns-in-Err-TooLong-clause-read
+returns-in-Err-TooLong-clause-read g c =
+    let taken : Takes (g.S.Source.left c.args.src.now) (g.S.Source.left c.read_text.new.src) (MOST_TEXT + 1) = c.in-Err-TooLong.ensures.too_long (ap (λ e. Err e) c.in-Err-TooLong.field-0-is) in
+    refusal_read MOST_TEXT _ _ _ _ _ _ _ taken c.refuse.ensures.ends
+
+-- ---- a text that was read
+
+pub returns-in-Ok-clause-writing : goal.returns-in-Ok-clause-writing
+returns-in-Ok-clause-writing g c = λ journal n.
+    let small : length c.in-Ok.text.items ≤ MOST_TEXT = search rules in
+    checks_told (g.S.Source.left c.args.src.now) (g.S.Source.left c.read_text.new.src) c.in-Ok.text.items _ c.answer.result _ _ journal _ _ n c.in-Ok.ensures.text c.in-Ok.ensures.at_end c.deref.ensures.value small c.answer.ensures.checks
+
+pub returns-in-Ok-clause-extent : goal.returns-in-Ok-clause-extent
+returns-in-Ok-clause-extent g c =
+    if_told (g.S.Source.left c.args.src.now) _ (λ text told.
+    let all : text ≡ c.in-Ok.text.items = read_all _ _ text c.in-Ok.text.items told c.in-Ok.ensures.text c.in-Ok.ensures.at_end in
+    let fits : length c.in-Ok.text.items ≤ MOST_TEXT = search rules in
+    let small : length text ≤ MOST_TEXT = rw all fits in
+    checks_read_text _ c.answer.result _ _ _ _ text _ _ c.answer.ensures.checks small c.in-Ok.ensures.at_end)
+
+pub returns-in-Ok-clause-command : goal.returns-in-Ok-clause-command
+returns-in-Ok-clause-command g c = λ e. absurd (checks_no_usage _ c.answer.result _ _ _ _ c.answer.ensures.checks e)
+
+pub returns-in-Ok-clause-read : goal.returns-in-Ok-clause-read
+returns-in-Ok-clause-read g c = checks_read _ c.answer.result _ _ _ _ _ _ c.answer.ensures.checks c.in-Ok.ensures.at_end
+
+pub returns-in-Ok-clause-read_fault : goal.returns-in-Ok-clause-read_fault
+returns-in-Ok-clause-read_fault g c = λ e. absurd (checks_no_read_fault _ c.answer.result _ _ _ _ c.answer.ensures.checks e)
+
+pub returns-in-Ok-clause-write_fault : goal.returns-in-Ok-clause-write_fault
+returns-in-Ok-clause-write_fault g c = checks_cause _ c.answer.result _ _ _ _ c.answer.ensures.checks
+
+-- ---- no text
+
+pub returns-in-Err-Failed-clause-writing : goal.returns-in-Err-Failed-clause-writing
+returns-in-Err-Failed-clause-writing g c = λ journal n. fault_told (g.S.Source.left c.args.src.now) (g.K.Sink.written c.args.out.now) journal (g.K.Sink.faults c.args.out.now) n
+
+pub returns-in-Err-NoMemory-clause-writing : goal.returns-in-Err-NoMemory-clause-writing
+returns-in-Err-NoMemory-clause-writing g c = λ journal n. nothing_told (g.S.Source.left c.args.src.now) (g.K.Sink.written c.args.out.now) journal (g.K.Sink.faults c.args.out.now) n

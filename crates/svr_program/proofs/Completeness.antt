@@ -1,0 +1,116 @@
+-- Which answers a script and a derivation have.
+use Rattle.std.proofs.Common.{◌≡◌, ◌≤◌, ◌<◌, ℕ, List, length, refl, sym, ◌∙◌, subst, inl, inr, arith}
+use Rattle.svr_limits.specs.declared.limit.TheConstants.{TEXT_LIMIT}
+use Rattle.svr_phase.specs.declared.options.Options.{Options}
+use Rattle.svr_script.specs.Ending as ending
+use Rattle.svr_script.specs.Ending.{Output}
+use Rattle.svr_run.specs.Telling.{Sinks, printing_of}
+use Rattle.svr_run_budget_laws.specs.Runs.{CallsAskLittle}
+use Rattle.svr_run_budget_laws.proofs.Along.{ends_answered}
+use Rattle.svr_check.proofs.Excluded.{files_are_judged}
+use Rattle.svr_words.specs.Words.{IsCommand}
+use Rattle.svr_words.proofs.Taking.{run_is_no_load, run_is_no_check, load_is_no_check}
+use Rattle.svr_answer.specs.Ends.{Ends}
+use Rattle.svr_answer.specs.Answers.{Refuses, too_long, refused}
+use Rattle.svr_command_check.specs.Answers.{RefusesCheck, too_long_to_check, no_file}
+use Rattle.svr_status.specs.declared.status.Status.{Status}
+use Rattle.svr_status.specs.declared.status.Status.TheVariants.{AllOne, SomeZero, Usage, SomeGivenUp, Refused, Limited, ReadFault, WriteFault, NoMemory}
+use Rattle.svr_status.proofs.Statuses.{refused_no_usage, limited_no_usage, given_no_usage}
+use Rattle.svr_program.specs.Outcome.{Says, Writes}
+use Rattle.svr_program.specs.Complete.{IsAnswerable, IsAnswered, RunsAreComplete, IsSmall, IsAnsweredWhole, SmallRunsAreAnswered, IsCheckable, IsVerdict, ChecksAreComplete}
+
+same_options : (words : List (List ℕ)) (a b : Options) → IsCommand words a → IsCommand words b → a ≡ b
+same_options words a b h k = h.options ∙ sym k.options
+
+module _ (words : List (List ℕ)) (text : List ℕ) (able : IsAnswerable words text) where
+  never_refused : (output : Output) → Refuses text output → ⊥
+  never_refused output (too_long long is) = let small = able.small in absurd (omega arith)
+  never_refused output (refused line small why is) = able.accepted line why
+
+  never_limited : (opts : Options) (output : Output) → IsCommand words opts → Ends opts text ending.Limited output → ⊥
+  never_limited opts output asked ends = able.unlimited output (subst (λ (o : Options). Ends o text ending.Limited output) (same_options words opts able.opts asked able.asked) ends)
+
+  is_answered : (status : Status) (old new : Sinks) → Writes words text status old new → (status ≡ ReadFault → ⊥) → (status ≡ WriteFault → ⊥) → IsAnswered status
+  is_answered AllOne old new writes read write = inl refl
+  is_answered SomeZero old new writes read write = inr (inl refl)
+  is_answered SomeGivenUp old new writes read write = inr (inr (inl refl))
+  is_answered NoMemory old new writes read write = inr (inr (inr refl))
+  is_answered Usage old new (output, inl (e, none, is), out, journal) read write = absurd (none.no_run able.opts able.asked)
+  is_answered Usage old new (output, inr (inl (opts, asked, none)), out, journal) read write = absurd none
+  is_answered Usage old new (output, inr (inr (inl (count, opts, asked, none))), out, journal) read write = absurd none
+  is_answered Usage old new (output, inr (inr (inr (asked, none))), out, journal) read write = absurd none
+  is_answered Refused old new (output, inl (e, none, is), out, journal) read write = absurd (refused_no_usage e)
+  is_answered Refused old new (output, inr (inl (opts, asked, refuses)), out, journal) read write = absurd (never_refused output refuses)
+  is_answered Refused old new (output, inr (inr (inl (count, opts, asked, refuses))), out, journal) read write = absurd (run_is_no_load words able.opts count opts able.asked asked)
+  is_answered Refused old new (output, inr (inr (inr (asked, refuses))), out, journal) read write = absurd (run_is_no_check words able.opts able.asked asked)
+  is_answered Limited old new (output, inl (e, none, is), out, journal) read write = absurd (limited_no_usage e)
+  is_answered Limited old new (output, inr (inl (opts, asked, answers)), out, journal) read write = absurd (never_limited opts output asked answers.1)
+  is_answered Limited old new (output, inr (inr (inl (count, opts, asked, answers))), out, journal) read write = absurd (run_is_no_load words able.opts count opts able.asked asked)
+  is_answered Limited old new (output, inr (inr (inr (asked, none))), out, journal) read write = absurd none
+  is_answered ReadFault old new writes read write = absurd (read refl)
+  is_answered WriteFault old new writes read write = absurd (write refl)
+
+pub runs_are_complete : RunsAreComplete
+runs_are_complete words text status old new able writes read write = is_answered words text able status old new writes read write
+
+-- ---- small questions alone
+
+module _ (words : List (List ℕ)) (text : List ℕ) (small : IsSmall words text) where
+  abbrev able : IsAnswerable words text
+  able = small.answerable
+
+  never_given_up : (opts : Options) (output : Output) → IsCommand words opts → Ends opts text ending.SomeGivenUp output → ⊥
+  never_given_up opts output asked ends =
+      let same : opts ≡ able.opts = same_options words opts able.opts asked able.asked in
+      ends_answered ends.design opts (subst (λ (o : Options). CallsAskLittle ends.design o) (sym same) (small.little ends.design ends.read)) (printing_of opts) output ends.run
+
+  none_said : (output : Output) → Says words text SomeGivenUp output → ⊥
+  none_said output (inl (e, none, is)) = given_no_usage e
+  none_said output (inr (inl (opts, asked, answers))) = never_given_up opts output asked answers.1
+  none_said output (inr (inr (inl (count, opts, asked, answers)))) = run_is_no_load words able.opts count opts able.asked asked
+  none_said output (inr (inr (inr (asked, none)))) = none
+
+  is_whole : (status : Status) (old new : Sinks) → Writes words text status old new → IsAnswered status → IsAnsweredWhole status
+  is_whole status old new writes (inl one) = inl one
+  is_whole status old new writes (inr (inl some)) = inr (inl some)
+  is_whole status old new writes (inr (inr (inl given))) =
+      let said = subst (λ (s : Status). Writes words text s old new) given writes in
+      absurd (none_said said.0 said.1)
+  is_whole status old new writes (inr (inr (inr memory))) = inr (inr memory)
+
+pub small_runs_are_answered : SmallRunsAreAnswered
+small_runs_are_answered words text status old new small writes read write =
+    is_whole words text small status old new writes (is_answered words text small.answerable status old new writes read write)
+
+-- ---- checks
+
+module _ (words : List (List ℕ)) (text : List ℕ) (able : IsCheckable words text) where
+  not_refused : (output : Output) → RefusesCheck text output → ⊥
+  not_refused output (too_long_to_check long is) = let small = able.small in absurd (omega arith)
+  not_refused output (no_file number place small why is) = files_are_judged text able.file number place able.written why
+
+  is_verdict : (status : Status) (old new : Sinks) → Writes words text status old new → (status ≡ ReadFault → ⊥) → (status ≡ WriteFault → ⊥) → IsVerdict status
+  is_verdict AllOne old new writes read write = inl refl
+  is_verdict SomeZero old new writes read write = inr (inl refl)
+  is_verdict NoMemory old new writes read write = inr (inr refl)
+  is_verdict Usage old new (output, inl (e, none, is), out, journal) read write = absurd (none.no_check able.asked)
+  is_verdict Usage old new (output, inr (inl (opts, asked, none)), out, journal) read write = absurd none
+  is_verdict Usage old new (output, inr (inr (inl (count, opts, asked, none))), out, journal) read write = absurd none
+  is_verdict Usage old new (output, inr (inr (inr (asked, none))), out, journal) read write = absurd none
+  is_verdict SomeGivenUp old new (output, inl (e, none, is), out, journal) read write = absurd (given_no_usage e)
+  is_verdict SomeGivenUp old new (output, inr (inl (opts, asked, answers)), out, journal) read write = absurd (run_is_no_check words opts asked able.asked)
+  is_verdict SomeGivenUp old new (output, inr (inr (inl (count, opts, asked, answers))), out, journal) read write = absurd (load_is_no_check words count opts asked able.asked)
+  is_verdict SomeGivenUp old new (output, inr (inr (inr (asked, none))), out, journal) read write = absurd none
+  is_verdict Refused old new (output, inl (e, none, is), out, journal) read write = absurd (refused_no_usage e)
+  is_verdict Refused old new (output, inr (inl (opts, asked, refuses)), out, journal) read write = absurd (run_is_no_check words opts asked able.asked)
+  is_verdict Refused old new (output, inr (inr (inl (count, opts, asked, refuses))), out, journal) read write = absurd (load_is_no_check words count opts asked able.asked)
+  is_verdict Refused old new (output, inr (inr (inr (asked, refuses))), out, journal) read write = absurd (not_refused output refuses)
+  is_verdict Limited old new (output, inl (e, none, is), out, journal) read write = absurd (limited_no_usage e)
+  is_verdict Limited old new (output, inr (inl (opts, asked, answers)), out, journal) read write = absurd (run_is_no_check words opts asked able.asked)
+  is_verdict Limited old new (output, inr (inr (inl (count, opts, asked, answers))), out, journal) read write = absurd (load_is_no_check words count opts asked able.asked)
+  is_verdict Limited old new (output, inr (inr (inr (asked, none))), out, journal) read write = absurd none
+  is_verdict ReadFault old new writes read write = absurd (read refl)
+  is_verdict WriteFault old new writes read write = absurd (write refl)
+
+pub checks_are_complete : ChecksAreComplete
+checks_are_complete words text status old new able writes read write = is_verdict words text able status old new writes read write

@@ -1,0 +1,3 @@
+pub mod Said
+pub mod Commands
+pub mod Completeness

@@ -1,0 +1,69 @@
+-- Which scripts and derivations are answered.
+use Rattle.std.specs.Prelude.{◌≡◌, ◌≤◌, ◌⊎◌, ℕ, List, length}
+use Rattle.svr_limits.specs.declared.limit.TheConstants.{TEXT_LIMIT}
+use Rattle.svr_typed.specs.StmtTerm.{DesignTerm}
+use Rattle.svr_phase.specs.declared.options.Options.{Options}
+use Rattle.svr_script.specs.Ending as ending
+use Rattle.svr_script.specs.Ending.{Output}
+use Rattle.svr_run_budget_laws.specs.Runs.{CallsAskLittle}
+use Rattle.svr_run.specs.Telling.{Sinks}
+use Rattle.svr_lrat_file.specs.Views.{FileView}
+use Rattle.svr_lrat_text.specs.declared.limits.TheConstants.{MOST_TEXT}
+use Rattle.svr_lrat_text.specs.Faults.{IsFileOf}
+use Rattle.svr_words.specs.Words.{IsCommand, IsCheck}
+use Rattle.svr_refused.specs.Texts.{HasDesign, IsRefused}
+use Rattle.svr_answer.specs.Ends.{Ends}
+use Rattle.svr_status.specs.declared.status.Status.{Status}
+use Rattle.svr_status.specs.declared.status.Status.TheVariants.{AllOne, SomeZero, SomeGivenUp, ReadFault, WriteFault, NoMemory}
+use Rattle.svr_program.specs.Outcome.{Writes}
+
+-- ---- which answers a script has
+
+-- The words ask for a run, nothing refuses the text, and no run of its script meets a limit.
+pub record IsAnswerable (words : List (List ℕ)) (text : List ℕ) : Type 0 where
+  pub opts : Options
+  pub asked : IsCommand words opts
+  pub small : length text ≤ TEXT_LIMIT
+  pub accepted : (line : List ℕ) → IsRefused text line → ⊥
+  pub unlimited : (output : Output) → Ends opts text ending.Limited output → ⊥
+
+-- each call was answered or given up, or memory was wanting
+abbrev pub IsAnswered : Status → Type 0
+IsAnswered status = (status ≡ AllOne) ⊎ ((status ≡ SomeZero) ⊎ ((status ≡ SomeGivenUp) ⊎ (status ≡ NoMemory)))
+
+-- where no source or sink failed, such a script is answered
+abbrev pub RunsAreComplete : Type 0
+RunsAreComplete = (words : List (List ℕ)) (text : List ℕ) (status : Status) (old new : Sinks) → IsAnswerable words text → Writes words text status old new
+    → (status ≡ ReadFault → ⊥) → (status ≡ WriteFault → ⊥) → IsAnswered status
+
+-- ---- which scripts are answered whole
+
+-- such a script, in which each question that a call comes to is small
+pub record IsSmall (words : List (List ℕ)) (text : List ℕ) : Type 0 where
+  pub answerable : IsAnswerable words text
+  pub little : (design : DesignTerm) → HasDesign text design → CallsAskLittle design answerable.opts
+
+-- each call was answered, or memory was wanting
+abbrev pub IsAnsweredWhole : Status → Type 0
+IsAnsweredWhole status = (status ≡ AllOne) ⊎ ((status ≡ SomeZero) ⊎ (status ≡ NoMemory))
+
+-- where no source or sink failed, none of its questions is given up
+abbrev pub SmallRunsAreAnswered : Type 0
+SmallRunsAreAnswered = (words : List (List ℕ)) (text : List ℕ) (status : Status) (old new : Sinks) → IsSmall words text → Writes words text status old new
+    → (status ≡ ReadFault → ⊥) → (status ≡ WriteFault → ⊥) → IsAnsweredWhole status
+
+-- The words ask for a check, and the text is a file within the limits.
+pub record IsCheckable (words : List (List ℕ)) (text : List ℕ) : Type 0 where
+  pub asked : IsCheck words
+  pub small : length text ≤ MOST_TEXT
+  pub file : FileView
+  pub written : IsFileOf text file
+
+-- it was accepted or rejected, or memory was wanting
+abbrev pub IsVerdict : Status → Type 0
+IsVerdict status = (status ≡ AllOne) ⊎ ((status ≡ SomeZero) ⊎ (status ≡ NoMemory))
+
+-- where no source or sink failed, such a text has its verdict
+abbrev pub ChecksAreComplete : Type 0
+ChecksAreComplete = (words : List (List ℕ)) (text : List ℕ) (status : Status) (old new : Sinks) → IsCheckable words text → Writes words text status old new
+    → (status ≡ ReadFault → ⊥) → (status ≡ WriteFault → ⊥) → IsVerdict status

@@ -1,0 +1,17 @@
+//! The tests of the program: words with what they print, scripts, refusals, long texts, loads and checks, through `run` over a source and sinks in memory.
+//!
+//! They stand apart, over the library, so that it is proved once.
+#![tactic(auto)]
+
+#[cfg(test)]
+mod asking;
+#[cfg(test)]
+mod checks;
+#[cfg(test)]
+mod commands;
+#[cfg(test)]
+mod held;
+#[cfg(test)]
+mod scripts;
+#[cfg(test)]
+mod texts;

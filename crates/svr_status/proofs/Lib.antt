@@ -1,0 +1,4 @@
+pub mod Lists
+pub mod Statuses
+pub mod Told
+pub mod Written

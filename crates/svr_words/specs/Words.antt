@@ -1,0 +1,90 @@
+-- The words of the command line, as `clap` reads them.
+use Rattle.std.specs.Prelude.{◌≡◌, ℕ, Bool, true, false, List, [], Option, Some, None, codes, slice_get}
+use Rattle.std.specs.Str.{bytes_eq}
+use Rattle.std.specs.Str.Parse.{digits_value, without_leading_plus}
+use Rattle.clap.specs.Walk.{Row, Rule, Text, one_of}
+use Rattle.clap.specs.Simple.{App, new_app, new_rule, on_top, with_rule, matches_of}
+use Rattle.clap.specs.Faults.{fault_of}
+use Rattle.clap.specs.declared.builder.action.ArgAction.TheVariants.{Set, SetTrue}
+use Rattle.clap.specs.declared.builder.value_parser.ValueParser.{ValueParser}
+use Rattle.clap.specs.declared.builder.value_parser.ValueParser.TheVariants.{Unsigned, Bool as Truth}
+use Rattle.svr_phase.specs.declared.options.Options.{Options}
+
+-- an option that takes one value
+abbrev pub option : Text → ValueParser → Rule
+option name parser = record (new_rule name) { long = Some name; action = Some Set; parser = Some parser }
+
+abbrev pub flag : Text → Rule
+flag name = record (new_rule name) { long = Some name; action = Some SetTrue; parser = Some Truth }
+
+-- a command without options, and without help
+abbrev pub plain_command : Text → App
+plain_command name = on_top (λ s. record s { disable_help_flag = true }) (new_app name)
+
+abbrev pub with_options : Text → App
+with_options name =
+    with_rule (with_rule (with_rule (with_rule (plain_command name)
+    (option (codes "seed") (Unsigned 0 18446744073709551615)))
+    (option (codes "budget") (Unsigned 1 16777216)))
+    (option (codes "size-cap") (Unsigned 1 2048)))
+    (flag (codes "proofs"))
+
+abbrev pub run_command : App
+run_command = with_options (codes "run")
+
+-- a check has no options
+abbrev pub check_command : App
+check_command = plain_command (codes "check")
+
+-- how many classes the script of a load has
+abbrev pub class_count : Rule
+class_count = record (new_rule (codes "N")) { action = Some Set; parser = Some (Unsigned 1 2000); required = true }
+
+abbrev pub load_command : App
+load_command = with_rule (with_options (codes "load")) class_count
+
+-- the number of an option, where it was used
+abbrev pub number_or : ℕ → Option Text → ℕ
+number_or default None = default
+number_or default (Some text) = digits_value 10 (without_leading_plus text)
+
+abbrev pub is_set : Option Text → Bool
+is_set None = false
+is_set (Some text) = bytes_eq text (codes "true")
+
+-- the options of a run, with what stands for those that were not used
+abbrev pub options_of : List Row → Options
+options_of rows = record {
+  seed = number_or 0 (one_of (codes "seed") rows);
+  budget = number_or 131072 (one_of (codes "budget") rows);
+  size_cap = number_or 256 (one_of (codes "size-cap") rows);
+  proofs = is_set (one_of (codes "proofs") rows);
+}
+
+-- The words ask for a run with these options: the first names the command, and `clap` takes those behind it for its options.
+pub record IsCommand (words : List Text) (opts : Options) : Type 0 where
+  pub named : slice_get words 0 ≡ Some (codes "run")
+  pub taken : fault_of run_command words ≡ []
+  pub options : opts ≡ options_of (matches_of run_command words)
+
+-- The words ask for a load of so many classes with these options.
+pub record IsLoad (words : List Text) (count : ℕ) (opts : Options) : Type 0 where
+  pub named : slice_get words 0 ≡ Some (codes "load")
+  pub taken : fault_of load_command words ≡ []
+  pub counted : count ≡ number_or 0 (one_of (codes "N") (matches_of load_command words))
+  pub options : opts ≡ options_of (matches_of load_command words)
+
+-- The words ask for a check: the first names the command, and `clap` takes those behind it for a command without options.
+pub record IsCheck (words : List Text) : Type 0 where
+  pub named : slice_get words 0 ≡ Some (codes "check")
+  pub taken : fault_of check_command words ≡ []
+
+-- the words ask for none of these
+pub record AskNothing (words : List Text) : Type 0 where
+  pub no_run : (opts : Options) → IsCommand words opts → ⊥
+  pub no_load : (count : ℕ) (opts : Options) → IsLoad words count opts → ⊥
+  pub no_check : IsCheck words → ⊥
+
+-- what is printed for such words
+abbrev pub usage_text : List ℕ
+usage_text = codes "usage: svrand run [--seed N] [--budget N] [--size-cap N] [--proofs]\n       svrand load N [--seed N] [--budget N] [--size-cap N] [--proofs]\n       svrand check\n"

@@ -1,0 +1,14 @@
+//! The words of the command line: what they ask for, as `clap` takes them, and the usage text for words that ask for nothing.
+//!
+//! `specs/Words.antt` says which words ask for what, `specs/Taken.antt` in which ranges their numbers are.
+#![tactic(auto)]
+
+mod app;
+mod ask;
+mod help;
+mod request;
+mod take;
+
+pub use ask::command;
+pub use help::USAGE;
+pub use request::{Load, Request};

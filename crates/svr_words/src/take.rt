@@ -1,0 +1,58 @@
+// What `clap` took for the options of a command.
+ghost use Rattle.std.specs.Prelude.{◌≡◌, ◌≤◌, ◌<◌, ◌^◌, ℕ, codes};
+ghost use Rattle.clap.specs.Matches.{found_of};
+ghost use Rattle.clap.specs.Walk.{one_of, rows_of};
+ghost use Rattle.svr_words.specs.Words.{number_or, is_set, options_of};
+ghost use Rattle.svr_words.specs.Taken.{IsNumber, IsTruth, AreTaken, AreInRange, LoadIsTaken};
+
+use crate::request::Load;
+use clap::ArgMatches;
+use svr_phase::Options;
+
+/// The number of an option, where it was used.
+fn number(matches: &ArgMatches<'_>, name: &str, default: u64) -> u64
+    requires { (low : ℕ) × (high : ℕ) × IsNumber (found_of matches.now) name.now low high }
+    ensures { result ≡ number_or default (one_of name.now (rows_of (found_of matches.now))) }
+{
+    matches.get_one::<u64>(name).unwrap_or(default)
+}
+
+/// Whether a flag was used.
+fn is_set(matches: &ArgMatches<'_>, name: &str) -> bool
+    requires { IsTruth (found_of matches.now) name.now }
+    ensures { result ≡ is_set (one_of name.now (rows_of (found_of matches.now))) }
+{
+    matches.get_flag(name)
+}
+
+/// The options of a run.
+pub fn options(matches: &ArgMatches<'_>) -> Options
+    requires { AreTaken (found_of matches.now) }
+    ensures options { result ≡ options_of (rows_of (found_of matches.now)) }
+    ensures ranges { AreInRange result }
+{
+    let seed = number(matches, "seed", 0);
+    let budget = number(matches, "budget", 131_072);
+    let size_cap = number(matches, "size-cap", 256);
+    Options {
+        seed,
+        budget,
+        size_cap: size_cap as u32,
+        proofs: is_set(matches, "proofs"),
+    }
+}
+
+/// The number of classes of a load, and its options.
+pub fn load_of(matches: &ArgMatches<'_>) -> Load
+    requires { LoadIsTaken (found_of matches.now) }
+    ensures count { result.count ≡ number_or 0 (one_of (codes "N") (rows_of (found_of matches.now))) }
+    ensures options { result.opts ≡ options_of (rows_of (found_of matches.now)) }
+    ensures small { result.count ≤ 2000 }
+    ensures ranges { AreInRange result.opts }
+{
+    let count = number(matches, "N", 0);
+    Load {
+        count: count as u32,
+        opts: options(matches),
+    }
+}

@@ -1,5 +1,0 @@
-use Rattle.svrand.proofs.Lists.{concat_step}
-use Rattle.svrand.proofs.line.join.Goals as goal
-
-pub loop-part-preserved : goal.loop-part-preserved
-loop-part-preserved c = concat_step _ _ _ _ _ c.loop-part-test.true c.loop-part.invariant c.in_ok-extend_from_slice.ensures.items

@@ -1,7 +1,0 @@
-use Rattle.std.proofs.Common.{◌≡◌, take}
-use Rattle.std.specs.List.{concat}
-use Rattle.svrand.specs.Lines.{seen}
-use Rattle.svrand.proofs.line.join.Given as goal
-
-abbrev pub invariant-loop-part : goal.invariant-loop-part
-invariant-loop-part l = l.text.items ≡ concat (seen (take l.part-index l.parts))
