@@ -6,7 +6,6 @@
 mod check;
 mod laws;
 mod line;
-mod place;
 
 pub use check::{Checked, check_text};
 pub use laws::a_file_is_judged;

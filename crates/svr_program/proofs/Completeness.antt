@@ -9,15 +9,17 @@ use Rattle.svr_run_budget_laws.specs.Runs.{CallsAskLittle}
 use Rattle.svr_run_budget_laws.proofs.Along.{ends_answered}
 use Rattle.svr_check.proofs.Excluded.{files_are_judged}
 use Rattle.svr_words.specs.Words.{IsCommand}
-use Rattle.svr_words.proofs.Taking.{run_is_no_load, run_is_no_check, load_is_no_check}
+use Rattle.svr_words.proofs.Taking.{run_is_no_load, run_is_no_check, load_is_no_check, run_is_no_seq, load_is_no_seq, check_is_no_seq}
 use Rattle.svr_answer.specs.Ends.{Ends}
 use Rattle.svr_answer.specs.Answers.{Refuses, too_long, refused}
 use Rattle.svr_command_check.specs.Answers.{RefusesCheck, too_long_to_check, no_file}
+use Rattle.svr_command_seq.specs.Answers.{RefusesSeq, too_long_to_produce, no_sequence}
+use Rattle.svr_seq_lines.proofs.Excluded.{not_refused as accepted_not_refused}
 use Rattle.svr_status.specs.declared.status.Status.{Status}
 use Rattle.svr_status.specs.declared.status.Status.TheVariants.{AllOne, SomeZero, Usage, SomeGivenUp, Refused, Limited, ReadFault, WriteFault, NoMemory}
 use Rattle.svr_status.proofs.Statuses.{refused_no_usage, limited_no_usage, given_no_usage}
 use Rattle.svr_program.specs.Outcome.{Says, Writes}
-use Rattle.svr_program.specs.Complete.{IsAnswerable, IsAnswered, RunsAreComplete, IsSmall, IsAnsweredWhole, SmallRunsAreAnswered, IsCheckable, IsVerdict, ChecksAreComplete}
+use Rattle.svr_program.specs.Complete.{IsAnswerable, IsAnswered, RunsAreComplete, IsSmall, IsAnsweredWhole, SmallRunsAreAnswered, IsCheckable, IsVerdict, ChecksAreComplete, IsProducible, IsProduced, LinesAreComplete}
 
 same_options : (words : List (List ℕ)) (a b : Options) → IsCommand words a → IsCommand words b → a ≡ b
 same_options words a b h k = h.options ∙ sym k.options
@@ -38,15 +40,18 @@ module _ (words : List (List ℕ)) (text : List ℕ) (able : IsAnswerable words 
   is_answered Usage old new (output, inl (e, none, is), out, journal) read write = absurd (none.no_run able.opts able.asked)
   is_answered Usage old new (output, inr (inl (opts, asked, none)), out, journal) read write = absurd none
   is_answered Usage old new (output, inr (inr (inl (count, opts, asked, none))), out, journal) read write = absurd none
-  is_answered Usage old new (output, inr (inr (inr (asked, none))), out, journal) read write = absurd none
+  is_answered Usage old new (output, inr (inr (inr (inl (asked, none)))), out, journal) read write = absurd none
+  is_answered Usage old new (output, inr (inr (inr (inr (seed, many, asked, none)))), out, journal) read write = absurd none
   is_answered Refused old new (output, inl (e, none, is), out, journal) read write = absurd (refused_no_usage e)
   is_answered Refused old new (output, inr (inl (opts, asked, refuses)), out, journal) read write = absurd (never_refused output refuses)
   is_answered Refused old new (output, inr (inr (inl (count, opts, asked, refuses))), out, journal) read write = absurd (run_is_no_load words able.opts count opts able.asked asked)
-  is_answered Refused old new (output, inr (inr (inr (asked, refuses))), out, journal) read write = absurd (run_is_no_check words able.opts able.asked asked)
+  is_answered Refused old new (output, inr (inr (inr (inl (asked, refuses)))), out, journal) read write = absurd (run_is_no_check words able.opts able.asked asked)
+  is_answered Refused old new (output, inr (inr (inr (inr (seed, many, asked, refuses)))), out, journal) read write = absurd (run_is_no_seq words able.opts seed many able.asked asked)
   is_answered Limited old new (output, inl (e, none, is), out, journal) read write = absurd (limited_no_usage e)
   is_answered Limited old new (output, inr (inl (opts, asked, answers)), out, journal) read write = absurd (never_limited opts output asked answers.1)
   is_answered Limited old new (output, inr (inr (inl (count, opts, asked, answers))), out, journal) read write = absurd (run_is_no_load words able.opts count opts able.asked asked)
-  is_answered Limited old new (output, inr (inr (inr (asked, none))), out, journal) read write = absurd none
+  is_answered Limited old new (output, inr (inr (inr (inl (asked, none)))), out, journal) read write = absurd none
+  is_answered Limited old new (output, inr (inr (inr (inr (seed, many, asked, none)))), out, journal) read write = absurd (run_is_no_seq words able.opts seed many able.asked asked)
   is_answered ReadFault old new writes read write = absurd (read refl)
   is_answered WriteFault old new writes read write = absurd (write refl)
 
@@ -68,7 +73,8 @@ module _ (words : List (List ℕ)) (text : List ℕ) (small : IsSmall words text
   none_said output (inl (e, none, is)) = given_no_usage e
   none_said output (inr (inl (opts, asked, answers))) = never_given_up opts output asked answers.1
   none_said output (inr (inr (inl (count, opts, asked, answers)))) = run_is_no_load words able.opts count opts able.asked asked
-  none_said output (inr (inr (inr (asked, none)))) = none
+  none_said output (inr (inr (inr (inl (asked, none))))) = none
+  none_said output (inr (inr (inr (inr (seed, many, asked, none))))) = none
 
   is_whole : (status : Status) (old new : Sinks) → Writes words text status old new → IsAnswered status → IsAnsweredWhole status
   is_whole status old new writes (inl one) = inl one
@@ -96,21 +102,62 @@ module _ (words : List (List ℕ)) (text : List ℕ) (able : IsCheckable words t
   is_verdict Usage old new (output, inl (e, none, is), out, journal) read write = absurd (none.no_check able.asked)
   is_verdict Usage old new (output, inr (inl (opts, asked, none)), out, journal) read write = absurd none
   is_verdict Usage old new (output, inr (inr (inl (count, opts, asked, none))), out, journal) read write = absurd none
-  is_verdict Usage old new (output, inr (inr (inr (asked, none))), out, journal) read write = absurd none
+  is_verdict Usage old new (output, inr (inr (inr (inl (asked, none)))), out, journal) read write = absurd none
+  is_verdict Usage old new (output, inr (inr (inr (inr (seed, many, asked, none)))), out, journal) read write = absurd none
   is_verdict SomeGivenUp old new (output, inl (e, none, is), out, journal) read write = absurd (given_no_usage e)
   is_verdict SomeGivenUp old new (output, inr (inl (opts, asked, answers)), out, journal) read write = absurd (run_is_no_check words opts asked able.asked)
   is_verdict SomeGivenUp old new (output, inr (inr (inl (count, opts, asked, answers))), out, journal) read write = absurd (load_is_no_check words count opts asked able.asked)
-  is_verdict SomeGivenUp old new (output, inr (inr (inr (asked, none))), out, journal) read write = absurd none
+  is_verdict SomeGivenUp old new (output, inr (inr (inr (inl (asked, none)))), out, journal) read write = absurd none
+  is_verdict SomeGivenUp old new (output, inr (inr (inr (inr (seed, many, asked, none)))), out, journal) read write = absurd none
   is_verdict Refused old new (output, inl (e, none, is), out, journal) read write = absurd (refused_no_usage e)
   is_verdict Refused old new (output, inr (inl (opts, asked, refuses)), out, journal) read write = absurd (run_is_no_check words opts asked able.asked)
   is_verdict Refused old new (output, inr (inr (inl (count, opts, asked, refuses))), out, journal) read write = absurd (load_is_no_check words count opts asked able.asked)
-  is_verdict Refused old new (output, inr (inr (inr (asked, refuses))), out, journal) read write = absurd (not_refused output refuses)
+  is_verdict Refused old new (output, inr (inr (inr (inl (asked, refuses)))), out, journal) read write = absurd (not_refused output refuses)
+  is_verdict Refused old new (output, inr (inr (inr (inr (seed, many, asked, refuses)))), out, journal) read write = absurd (check_is_no_seq words seed many able.asked asked)
   is_verdict Limited old new (output, inl (e, none, is), out, journal) read write = absurd (limited_no_usage e)
   is_verdict Limited old new (output, inr (inl (opts, asked, answers)), out, journal) read write = absurd (run_is_no_check words opts asked able.asked)
   is_verdict Limited old new (output, inr (inr (inl (count, opts, asked, answers))), out, journal) read write = absurd (load_is_no_check words count opts asked able.asked)
-  is_verdict Limited old new (output, inr (inr (inr (asked, none))), out, journal) read write = absurd none
+  is_verdict Limited old new (output, inr (inr (inr (inl (asked, none)))), out, journal) read write = absurd none
+  is_verdict Limited old new (output, inr (inr (inr (inr (seed, many, asked, none)))), out, journal) read write = absurd (check_is_no_seq words seed many able.asked asked)
   is_verdict ReadFault old new writes read write = absurd (read refl)
   is_verdict WriteFault old new writes read write = absurd (write refl)
 
 pub checks_are_complete : ChecksAreComplete
 checks_are_complete words text status old new able writes read write = is_verdict words text able status old new writes read write
+
+-- ---- lines
+
+module _ (words : List (List ℕ)) (text : List ℕ) (able : IsProducible words text) where
+  seq_not_refused : (output : Output) → RefusesSeq text output → ⊥
+  seq_not_refused output (too_long_to_produce long is) = let small = able.small in absurd (omega arith)
+  seq_not_refused output (no_sequence number place small why is) = accepted_not_refused text able.tokens able.seq number place able.read why
+
+  is_produced : (status : Status) (old new : Sinks) → Writes words text status old new → (status ≡ ReadFault → ⊥) → (status ≡ WriteFault → ⊥) → IsProduced status
+  is_produced AllOne old new writes read write = inl refl
+  is_produced Limited old new writes read write = inr (inl refl)
+  is_produced NoMemory old new writes read write = inr (inr refl)
+  is_produced SomeZero old new (output, inl (e, none, is), out, journal) read write = absurd (none.no_seq able.seed able.count able.asked)
+  is_produced SomeZero old new (output, inr (inl (opts, asked, answers)), out, journal) read write = absurd (run_is_no_seq words opts able.seed able.count asked able.asked)
+  is_produced SomeZero old new (output, inr (inr (inl (count, opts, asked, answers))), out, journal) read write = absurd (load_is_no_seq words count opts able.seed able.count asked able.asked)
+  is_produced SomeZero old new (output, inr (inr (inr (inl (asked, answers)))), out, journal) read write = absurd (check_is_no_seq words able.seed able.count asked able.asked)
+  is_produced SomeZero old new (output, inr (inr (inr (inr (seed, many, asked, none)))), out, journal) read write = absurd none
+  is_produced Usage old new (output, inl (e, none, is), out, journal) read write = absurd (none.no_seq able.seed able.count able.asked)
+  is_produced Usage old new (output, inr (inl (opts, asked, none)), out, journal) read write = absurd none
+  is_produced Usage old new (output, inr (inr (inl (count, opts, asked, none))), out, journal) read write = absurd none
+  is_produced Usage old new (output, inr (inr (inr (inl (asked, none)))), out, journal) read write = absurd none
+  is_produced Usage old new (output, inr (inr (inr (inr (seed, many, asked, none)))), out, journal) read write = absurd none
+  is_produced SomeGivenUp old new (output, inl (e, none, is), out, journal) read write = absurd (given_no_usage e)
+  is_produced SomeGivenUp old new (output, inr (inl (opts, asked, answers)), out, journal) read write = absurd (run_is_no_seq words opts able.seed able.count asked able.asked)
+  is_produced SomeGivenUp old new (output, inr (inr (inl (count, opts, asked, answers))), out, journal) read write = absurd (load_is_no_seq words count opts able.seed able.count asked able.asked)
+  is_produced SomeGivenUp old new (output, inr (inr (inr (inl (asked, none)))), out, journal) read write = absurd none
+  is_produced SomeGivenUp old new (output, inr (inr (inr (inr (seed, many, asked, none)))), out, journal) read write = absurd none
+  is_produced Refused old new (output, inl (e, none, is), out, journal) read write = absurd (refused_no_usage e)
+  is_produced Refused old new (output, inr (inl (opts, asked, refuses)), out, journal) read write = absurd (run_is_no_seq words opts able.seed able.count asked able.asked)
+  is_produced Refused old new (output, inr (inr (inl (count, opts, asked, refuses))), out, journal) read write = absurd (load_is_no_seq words count opts able.seed able.count asked able.asked)
+  is_produced Refused old new (output, inr (inr (inr (inl (asked, refuses)))), out, journal) read write = absurd (check_is_no_seq words able.seed able.count asked able.asked)
+  is_produced Refused old new (output, inr (inr (inr (inr (seed, many, asked, refuses)))), out, journal) read write = absurd (seq_not_refused output refuses)
+  is_produced ReadFault old new writes read write = absurd (read refl)
+  is_produced WriteFault old new writes read write = absurd (write refl)
+
+pub lines_are_complete : LinesAreComplete
+lines_are_complete words text status old new able writes read write = is_produced words text able status old new writes read write

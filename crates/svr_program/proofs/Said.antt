@@ -5,7 +5,7 @@ use Rattle.std.proofs.KnownBytes.{Appends-nil}
 use Rattle.svr_edge.specs.Known.{AppendsFront}
 use Rattle.svr_phase.specs.declared.options.Options.{Options}
 use Rattle.svr_run.specs.Telling.{Sinks}
-use Rattle.svr_words.specs.Words.{IsCommand, IsLoad, IsCheck, AskNothing, usage_text}
+use Rattle.svr_words.specs.Words.{IsCommand, IsLoad, IsCheck, IsSeq, AskNothing, usage_text}
 use Rattle.svr_status.specs.Writing.{prints, Writing}
 use Rattle.svr_status.specs.declared.status.Status.{Status}
 use Rattle.svr_status.specs.declared.status.Status.TheVariants.{Usage, WriteFault}
@@ -14,6 +14,7 @@ use Rattle.svr_status.proofs.Written.{mapped}
 use Rattle.svr_answer.specs.Answers.{Answers, MayTell, LoadAnswers, LoadMayTell}
 use Rattle.svr_answer.specs.Parts.{LoadAnswered}
 use Rattle.svr_command_check.specs.Answers.{CheckAnswers, CheckMayTell}
+use Rattle.svr_command_seq.specs.Answers.{SeqAnswers, SeqMayTell}
 use Rattle.svr_program.specs.Outcome.{Says, MaySay, Writes}
 
 -- an answer is what the program says with words that are a command
@@ -30,7 +31,12 @@ load_is_said words count opts text status old new asked writing =
 pub check_is_said : (words : List (List ℕ)) (text : List ℕ) (status : Status) (old new : Sinks) → IsCheck words
     → Writing (CheckAnswers text) (CheckMayTell text) status old new → Writes words text status old new
 check_is_said words text status old new asked writing =
-    mapped (CheckAnswers text) (Says words text) (CheckMayTell text) (MaySay words text) (λ s o h. inr (inr (inr (asked, h)))) (λ o h. inr (inr (inr (asked, h)))) status old new writing
+    mapped (CheckAnswers text) (Says words text) (CheckMayTell text) (MaySay words text) (λ s o h. inr (inr (inr (inl (asked, h))))) (λ o h. inr (inr (inr (inl (asked, h))))) status old new writing
+
+pub seq_is_said : (words : List (List ℕ)) (seed count : ℕ) (text : List ℕ) (status : Status) (old new : Sinks) → IsSeq words seed count
+    → Writing (SeqAnswers seed count text) (SeqMayTell seed count text) status old new → Writes words text status old new
+seq_is_said words seed count text status old new asked writing =
+    mapped (SeqAnswers seed count text) (Says words text) (SeqMayTell seed count text) (MaySay words text) (λ s o h. inr (inr (inr (inr (seed, count, asked, h))))) (λ o h. inr (inr (inr (inr (seed, count, asked, h))))) status old new writing
 
 -- over a source that tells its text
 pub source_is_said : (o : Option (List ℕ)) (words : List (List ℕ)) (opts : Options) (status : Status) (old new : Sinks) → IsCommand words opts
@@ -47,6 +53,11 @@ pub checked_is_said : (o : Option (List ℕ)) (words : List (List ℕ)) (status 
     → IfSome o (λ text. Writing (CheckAnswers text) (CheckMayTell text) status old new) → IfSome o (λ text. Writes words text status old new)
 checked_is_said None words status old new asked writing = tt
 checked_is_said (Some text) words status old new asked writing = check_is_said words text status old new asked writing
+
+pub lines_are_said : (o : Option (List ℕ)) (words : List (List ℕ)) (seed count : ℕ) (status : Status) (old new : Sinks) → IsSeq words seed count
+    → IfSome o (λ text. Writing (SeqAnswers seed count text) (SeqMayTell seed count text) status old new) → IfSome o (λ text. Writes words text status old new)
+lines_are_said None words seed count status old new asked writing = tt
+lines_are_said (Some text) words seed count status old new asked writing = seq_is_said words seed count text status old new asked writing
 
 -- ---- the usage
 

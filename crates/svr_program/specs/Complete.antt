@@ -1,4 +1,4 @@
--- Which scripts and derivations are answered.
+-- Which scripts, derivations and texts of `randsequence` are answered.
 use Rattle.std.specs.Prelude.{◌≡◌, ◌≤◌, ◌⊎◌, ℕ, List, length}
 use Rattle.svr_limits.specs.declared.limit.TheConstants.{TEXT_LIMIT}
 use Rattle.svr_typed.specs.StmtTerm.{DesignTerm}
@@ -10,11 +10,14 @@ use Rattle.svr_run.specs.Telling.{Sinks}
 use Rattle.svr_lrat_file.specs.Views.{FileView}
 use Rattle.svr_lrat_text.specs.declared.limits.TheConstants.{MOST_TEXT}
 use Rattle.svr_lrat_text.specs.Faults.{IsFileOf}
-use Rattle.svr_words.specs.Words.{IsCommand, IsCheck}
+use Rattle.svr_token.specs.declared.token.Token.{Token}
+use Rattle.svr_seq.specs.SeqTerm.{SeqTerm}
+use Rattle.svr_seq_lines.specs.Said.{HasSeq}
+use Rattle.svr_words.specs.Words.{IsCommand, IsCheck, IsSeq}
 use Rattle.svr_refused.specs.Texts.{HasDesign, IsRefused}
 use Rattle.svr_answer.specs.Ends.{Ends}
 use Rattle.svr_status.specs.declared.status.Status.{Status}
-use Rattle.svr_status.specs.declared.status.Status.TheVariants.{AllOne, SomeZero, SomeGivenUp, ReadFault, WriteFault, NoMemory}
+use Rattle.svr_status.specs.declared.status.Status.TheVariants.{AllOne, SomeZero, SomeGivenUp, Limited, ReadFault, WriteFault, NoMemory}
 use Rattle.svr_program.specs.Outcome.{Writes}
 
 -- ---- which answers a script has
@@ -67,3 +70,24 @@ IsVerdict status = (status ≡ AllOne) ⊎ ((status ≡ SomeZero) ⊎ (status �
 abbrev pub ChecksAreComplete : Type 0
 ChecksAreComplete = (words : List (List ℕ)) (text : List ℕ) (status : Status) (old new : Sinks) → IsCheckable words text → Writes words text status old new
     → (status ≡ ReadFault → ⊥) → (status ≡ WriteFault → ⊥) → IsVerdict status
+
+-- ---- which texts of `randsequence` have their lines
+
+-- The words ask for lines, and the text is accepted.
+pub record IsProducible (words : List (List ℕ)) (text : List ℕ) : Type 0 where
+  pub seed : ℕ
+  pub count : ℕ
+  pub asked : IsSeq words seed count
+  pub small : length text ≤ TEXT_LIMIT
+  pub tokens : List Token
+  pub seq : SeqTerm
+  pub read : HasSeq text tokens seq
+
+-- all lines were written, or those up to one that needs too many units, or memory was wanting
+abbrev pub IsProduced : Status → Type 0
+IsProduced status = (status ≡ AllOne) ⊎ ((status ≡ Limited) ⊎ (status ≡ NoMemory))
+
+-- where no source or sink failed, such a text has its lines
+abbrev pub LinesAreComplete : Type 0
+LinesAreComplete = (words : List (List ℕ)) (text : List ℕ) (status : Status) (old new : Sinks) → IsProducible words text → Writes words text status old new
+    → (status ≡ ReadFault → ⊥) → (status ≡ WriteFault → ⊥) → IsProduced status

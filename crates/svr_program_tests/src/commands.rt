@@ -9,7 +9,7 @@ const SCRIPT: &[u8] =
 const LINES: &[u8] = b"#1 p 1 a=5\n#2 p 1 a=5\n#3 p 1 a=5\n";
 
 const USAGE: &[u8] =
-    b"usage: svrand run [--seed N] [--budget N] [--size-cap N] [--proofs]\n       svrand load N [--seed N] [--budget N] [--size-cap N] [--proofs]\n       svrand check\n";
+    b"usage: svrand run [--seed N] [--budget N] [--size-cap N] [--proofs]\n       svrand load N [--seed N] [--budget N] [--size-cap N] [--proofs]\n       svrand check\n       svrand seq [--seed N] [--count N]\n";
 
 /// Words, and what a run with them ends with and prints.
 struct Words {
@@ -18,7 +18,7 @@ struct Words {
     written: &'static [u8],
 }
 
-const WORDS: [Words; 31] = [
+const WORDS: [Words; 38] = [
     Words {
         words: &["run"],
         status: Status::AllOne,
@@ -172,6 +172,41 @@ const WORDS: [Words; 31] = [
     },
     Words {
         words: &["check", "--help"],
+        status: Status::Usage,
+        written: USAGE,
+    },
+    Words {
+        words: &["seq", "1"],
+        status: Status::Usage,
+        written: USAGE,
+    },
+    Words {
+        words: &["seq", "--help"],
+        status: Status::Usage,
+        written: USAGE,
+    },
+    Words {
+        words: &["seq", "--count", "0"],
+        status: Status::Usage,
+        written: USAGE,
+    },
+    Words {
+        words: &["seq", "--count", "100001"],
+        status: Status::Usage,
+        written: USAGE,
+    },
+    Words {
+        words: &["seq", "--seed", "18446744073709551616"],
+        status: Status::Usage,
+        written: USAGE,
+    },
+    Words {
+        words: &["seq", "--count", "1", "--count", "2"],
+        status: Status::Usage,
+        written: USAGE,
+    },
+    Words {
+        words: &["seq", "--proofs"],
         status: Status::Usage,
         written: USAGE,
     },

@@ -1,4 +1,4 @@
-//! The tests of the program: words with what they print, scripts, refusals, long texts, loads and checks, through `run` over a source and sinks in memory.
+//! The tests of the program: words with what they print, scripts, refusals, long texts, loads, checks and lines of `randsequence`, through `run` over a source and sinks in memory.
 //!
 //! They stand apart, over the library, so that it is proved once.
 #![tactic(auto)]
@@ -13,5 +13,7 @@ mod commands;
 mod held;
 #[cfg(test)]
 mod scripts;
+#[cfg(test)]
+mod sequences;
 #[cfg(test)]
 mod texts;

@@ -7,3 +7,5 @@
 mod lines;
 #[cfg(test)]
 mod texts;
+#[cfg(test)]
+mod written;

@@ -36,8 +36,8 @@ use Rattle.clap.proofs.CallerLemmas.{entry_by_id}
 use Rattle.clap.proofs.WalkLemmas.{one_text-rows}
 use Rattle.clap.proofs.OnLiterals.{clap_on_literals}
 use Rattle.svr_phase.specs.declared.options.Options.{Options}
-use Rattle.svr_words.specs.Words.{option, flag, run_command, class_count, load_command, check_command, number_or, is_set, options_of, IsCommand, IsLoad, IsCheck, AskNothing}
-use Rattle.svr_words.specs.Taken.{IsNumber, IsTruth, AreTaken, LoadIsTaken}
+use Rattle.svr_words.specs.Words.{option, flag, run_command, class_count, load_command, check_command, seq_command, number_or, is_set, options_of, IsCommand, IsLoad, IsCheck, IsSeq, AskNothing}
+use Rattle.svr_words.specs.Taken.{IsNumber, IsTruth, AreTaken, LoadIsTaken, SeqIsTaken}
 
 -- ---- the command
 
@@ -77,6 +77,9 @@ load_is_read = record { is_free = refl; is_simple = refl; is_plain = refl; have 
 
 check_is_read : IsRead check_command
 check_is_read = record { is_free = refl; is_simple = refl; is_plain = refl; have = refl; simple = refl }
+
+seq_is_read : IsRead seq_command
+seq_is_read = record { is_free = refl; is_simple = refl; is_plain = refl; have = refl; simple = refl }
 
 both : (a b : Bool) → (a && b) ≡ true → (a ≡ true) × (b ≡ true)
 both true true e = (refl, refl)
@@ -321,6 +324,33 @@ load_is_taken c m is p = record {
     with_rules : (text : Text) → Took (map rule_of (args_of c)) (codes "N") text → Took (with_rest (class_count ∷ [])) (codes "N") text
     with_rules text t = subst (λ (rs : List Rule). Took rs (codes "N") text) (ap (λ (a : App). a.top.rules) is) t
 
+-- the options of lines
+abbrev seq_rules : List Rule
+seq_rules = option (codes "seed") (Unsigned 0 18446744073709551615) ∷ option (codes "count") (Unsigned 1 100000) ∷ []
+
+seed_of_seq : (P : ValueParser → Type 0) → Finds P (codes "seed") seq_rules → P (Unsigned 0 18446744073709551615)
+seed_of_seq P (inl (e, h)) = h
+seed_of_seq P (inr (inl (e, h))) = absurd (false≢true e)
+seed_of_seq P (inr (inr none)) = absurd none
+
+count_of_seq : (P : ValueParser → Type 0) → Finds P (codes "count") seq_rules → P (Unsigned 1 100000)
+count_of_seq P (inl (e, h)) = absurd (false≢true e)
+count_of_seq P (inr (inl (e, h))) = h
+count_of_seq P (inr (inr none)) = absurd none
+
+pub seq_is_taken : (c : Command) (m : ArgMatches) → app_of c ≡ seq_command → IsParsedFrom c m → SeqIsTaken (found_of m)
+seq_is_taken c m is p = record {
+  seed = λ text told.
+      let t = with_rules (codes "seed") text (took seq_command c m p seq_is_read is (codes "seed") text (differ (codes "seed") [] 115 0 refl refl (inr (omega arith))) (differ (codes "seed") (codes "help") 115 104 refl refl (inr (omega arith))) (differ (codes "seed") (codes "version") 115 118 refl refl (inl (omega arith))) told) in
+      number_of 0 18446744073709551615 text t.value t.how t.read (seed_of_seq (λ q. (i : Bool) × Accepts i q t.value) t.passed) (seed_of_seq (λ q. reading_of q ≡ t.how) t.reads);
+  count = λ text told.
+      let t = with_rules (codes "count") text (took seq_command c m p seq_is_read is (codes "count") text (differ (codes "count") [] 99 0 refl refl (inr (omega arith))) (differ (codes "count") (codes "help") 99 104 refl refl (inl (omega arith))) (differ (codes "count") (codes "version") 99 118 refl refl (inl (omega arith))) told) in
+      number_of 1 100000 text t.value t.how t.read (count_of_seq (λ q. (i : Bool) × Accepts i q t.value) t.passed) (count_of_seq (λ q. reading_of q ≡ t.how) t.reads);
+}
+  where
+    with_rules : (name text : Text) → Took (map rule_of (args_of c)) name text → Took seq_rules name text
+    with_rules name text t = subst (λ (rs : List Rule). Took rs name text) (ap (λ (a : App). a.top.rules) is) t
+
 -- ---- how it is read
 
 pub number_read : {E : Type 0} (G : List ℕ → Result ℕ E → Type 0) (f : Found) (name : Text) (r : Option ℕ) (default low high : ℕ)
@@ -429,6 +459,24 @@ pub check_not_asked : (words : List Text) (c : Command) (e : Error) (r : Result 
     → (is_simple_and_free (app_of c) ≡ true → FailsBy (fault_of (app_of c) words) r) → (kind_of e ≡ OutOfMemory → ⊥) → IsCheck words → ⊥
 check_not_asked words c e r is err kinds other check = failed_words check_command words c e r check_is_read is err kinds other check.taken
 
+pub seq_asked : (words : List Text) (c : Command) (m : ArgMatches) (r : Result ArgMatches Error) (seed count : ℕ)
+    → slice_get words 0 ≡ Some (codes "seq") → app_of c ≡ seq_command → r ≡ Ok m
+    → (is_simple_and_free (app_of c) ≡ true → FailsBy (fault_of (app_of c) words) r) → IfOk r (HasMatchesOf (app_of c) words)
+    → seed ≡ number_or 0 (one_of (codes "seed") (rows_of (found_of m))) → count ≡ number_or 1 (one_of (codes "count") (rows_of (found_of m))) → IsSeq words seed count
+seq_asked words c m r seed count first is ok kinds matches seeded counted =
+    let h : (fault_of seq_command words ≡ []) × (rows_of (found_of m) ≡ matches_of seq_command words) = parsed_words seq_command words c m r seq_is_read is ok kinds matches in
+    record {
+      named = first;
+      taken = h.0;
+      seeded = seeded ∙ ap (λ (rows : List Row). number_or 0 (one_of (codes "seed") rows)) h.1;
+      counted = counted ∙ ap (λ (rows : List Row). number_or 1 (one_of (codes "count") rows)) h.1;
+    }
+
+pub seq_not_asked : (words : List Text) (c : Command) (e : Error) (r : Result ArgMatches Error) → app_of c ≡ seq_command → r ≡ Err e
+    → (is_simple_and_free (app_of c) ≡ true → FailsBy (fault_of (app_of c) words) r) → (kind_of e ≡ OutOfMemory → ⊥)
+    → (seed count : ℕ) → IsSeq words seed count → ⊥
+seq_not_asked words c e r is err kinds other seed count seq = failed_words seq_command words c e r seq_is_read is err kinds other seq.taken
+
 -- ---- the first word
 
 -- no word names two commands
@@ -444,6 +492,15 @@ run_or_check e = differ (codes "run") (codes "check") 114 99 refl refl (inr (ome
 load_or_check : codes "load" ≡ codes "check" → ⊥
 load_or_check e = differ (codes "load") (codes "check") 108 99 refl refl (inr (omega arith)) e
 
+run_or_seq : codes "run" ≡ codes "seq" → ⊥
+run_or_seq e = differ (codes "run") (codes "seq") 114 115 refl refl (inl (omega arith)) e
+
+load_or_seq : codes "load" ≡ codes "seq" → ⊥
+load_or_seq e = differ (codes "load") (codes "seq") 108 115 refl refl (inl (omega arith)) e
+
+check_or_seq : codes "check" ≡ codes "seq" → ⊥
+check_or_seq e = differ (codes "check") (codes "seq") 99 115 refl refl (inl (omega arith)) e
+
 pub run_is_no_load : (words : List Text) (a : Options) (count : ℕ) (b : Options) → IsCommand words a → IsLoad words count b → ⊥
 run_is_no_load words a count b run load = names_differ (codes "run") (codes "load") (slice_get words 0) run_or_load run.named load.named
 
@@ -453,11 +510,21 @@ run_is_no_check words opts run check = names_differ (codes "run") (codes "check"
 pub load_is_no_check : (words : List Text) (count : ℕ) (opts : Options) → IsLoad words count opts → IsCheck words → ⊥
 load_is_no_check words count opts load check = names_differ (codes "load") (codes "check") (slice_get words 0) load_or_check load.named check.named
 
+pub run_is_no_seq : (words : List Text) (opts : Options) (seed count : ℕ) → IsCommand words opts → IsSeq words seed count → ⊥
+run_is_no_seq words opts seed count run seq = names_differ (codes "run") (codes "seq") (slice_get words 0) run_or_seq run.named seq.named
+
+pub load_is_no_seq : (words : List Text) (n : ℕ) (opts : Options) (seed count : ℕ) → IsLoad words n opts → IsSeq words seed count → ⊥
+load_is_no_seq words n opts seed count load seq = names_differ (codes "load") (codes "seq") (slice_get words 0) load_or_seq load.named seq.named
+
+pub check_is_no_seq : (words : List Text) (seed count : ℕ) → IsCheck words → IsSeq words seed count → ⊥
+check_is_no_seq words seed count check seq = names_differ (codes "check") (codes "seq") (slice_get words 0) check_or_seq check.named seq.named
+
 pub nothing_for_run : (words : List Text) → slice_get words 0 ≡ Some (codes "run") → ((opts : Options) → IsCommand words opts → ⊥) → AskNothing words
 nothing_for_run words first none = record {
   no_run = none;
   no_load = λ count opts load. names_differ (codes "run") (codes "load") (slice_get words 0) run_or_load first load.named;
   no_check = λ check. names_differ (codes "run") (codes "check") (slice_get words 0) run_or_check first check.named;
+  no_seq = λ seed count seq. names_differ (codes "run") (codes "seq") (slice_get words 0) run_or_seq first seq.named;
 }
 
 pub nothing_for_load : (words : List Text) → slice_get words 0 ≡ Some (codes "load") → ((count : ℕ) (opts : Options) → IsLoad words count opts → ⊥) → AskNothing words
@@ -465,6 +532,7 @@ nothing_for_load words first none = record {
   no_run = λ opts run. names_differ (codes "run") (codes "load") (slice_get words 0) run_or_load run.named first;
   no_load = none;
   no_check = λ check. names_differ (codes "load") (codes "check") (slice_get words 0) load_or_check first check.named;
+  no_seq = λ seed count seq. names_differ (codes "load") (codes "seq") (slice_get words 0) load_or_seq first seq.named;
 }
 
 pub nothing_for_check : (words : List Text) → slice_get words 0 ≡ Some (codes "check") → (IsCheck words → ⊥) → AskNothing words
@@ -472,10 +540,24 @@ nothing_for_check words first none = record {
   no_run = λ opts run. names_differ (codes "run") (codes "check") (slice_get words 0) run_or_check run.named first;
   no_load = λ count opts load. names_differ (codes "load") (codes "check") (slice_get words 0) load_or_check load.named first;
   no_check = none;
+  no_seq = λ seed count seq. names_differ (codes "check") (codes "seq") (slice_get words 0) check_or_seq first seq.named;
 }
 
-pub nothing_for_other : (words : List Text) → (slice_get words 0 ≡ Some (codes "run") → ⊥) → (slice_get words 0 ≡ Some (codes "load") → ⊥) → (slice_get words 0 ≡ Some (codes "check") → ⊥) → AskNothing words
-nothing_for_other words no_run no_load no_check = record { no_run = λ opts run. no_run run.named; no_load = λ count opts load. no_load load.named; no_check = λ check. no_check check.named }
+pub nothing_for_seq : (words : List Text) → slice_get words 0 ≡ Some (codes "seq") → ((seed count : ℕ) → IsSeq words seed count → ⊥) → AskNothing words
+nothing_for_seq words first none = record {
+  no_run = λ opts run. names_differ (codes "run") (codes "seq") (slice_get words 0) run_or_seq run.named first;
+  no_load = λ count opts load. names_differ (codes "load") (codes "seq") (slice_get words 0) load_or_seq load.named first;
+  no_check = λ check. names_differ (codes "check") (codes "seq") (slice_get words 0) check_or_seq check.named first;
+  no_seq = none;
+}
+
+pub nothing_for_other : (words : List Text) → (slice_get words 0 ≡ Some (codes "run") → ⊥) → (slice_get words 0 ≡ Some (codes "load") → ⊥) → (slice_get words 0 ≡ Some (codes "check") → ⊥) → (slice_get words 0 ≡ Some (codes "seq") → ⊥) → AskNothing words
+nothing_for_other words no_run no_load no_check no_seq = record {
+  no_run = λ opts run. no_run run.named;
+  no_load = λ count opts load. no_load load.named;
+  no_check = λ check. no_check check.named;
+  no_seq = λ seed count seq. no_seq seq.named;
+}
 
 pub head_is : {A B : Type 0} (f : A → B) (xs : List A) (x : A) → 1 ≤ length xs → x ≡ get_or xs 0 x → slice_get (map f xs) 0 ≡ Some (f x)
 head_is f [] x less is = absurd (omega arith)

@@ -6,7 +6,7 @@ use Rattle.clap.specs.Values.{IsUnsignedIn}
 use Rattle.clap.specs.Matches.{one_text}
 use Rattle.clap.specs.declared.parser.matches.Found.{Found}
 use Rattle.svr_phase.specs.declared.options.Options.{Options}
-use Rattle.svr_words.specs.Words.{IsCommand, IsLoad, IsCheck}
+use Rattle.svr_words.specs.Words.{IsCommand, IsLoad, IsCheck, IsSeq}
 use Rattle.svr_words.specs.declared.request.Request.{Request}
 use Rattle.svr_words.specs.declared.request.Request.TheVariants as request
 
@@ -33,8 +33,14 @@ pub record LoadIsTaken (f : Found) : Type 0 where
   pub count : IsNumber f (codes "N") 1 2000
   pub options : AreTaken f
 
+-- what was taken for lines
+pub record SeqIsTaken (f : Found) : Type 0 where
+  pub seed : IsNumber f (codes "seed") 0 18446744073709551615
+  pub count : IsNumber f (codes "count") 1 100000
+
 -- the words ask for this, and its numbers are in their ranges
 abbrev pub Asks : List (List ℕ) → Request → Type 0
 Asks words (request.Run opts) = IsCommand words opts × AreInRange opts
 Asks words (request.Load load) = IsLoad words load.count load.opts × (load.count ≤ 2000) × AreInRange load.opts
 Asks words request.Check = IsCheck words
+Asks words (request.Seq lines) = IsSeq words lines.seed lines.count

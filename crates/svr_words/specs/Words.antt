@@ -36,6 +36,13 @@ run_command = with_options (codes "run")
 abbrev pub check_command : App
 check_command = plain_command (codes "check")
 
+-- `seq` with its options
+abbrev pub seq_command : App
+seq_command =
+    with_rule (with_rule (plain_command (codes "seq"))
+    (option (codes "seed") (Unsigned 0 18446744073709551615)))
+    (option (codes "count") (Unsigned 1 100000))
+
 -- how many classes the script of a load has
 abbrev pub class_count : Rule
 class_count = record (new_rule (codes "N")) { action = Some Set; parser = Some (Unsigned 1 2000); required = true }
@@ -79,12 +86,20 @@ pub record IsCheck (words : List Text) : Type 0 where
   pub named : slice_get words 0 ≡ Some (codes "check")
   pub taken : fault_of check_command words ≡ []
 
+-- The words ask for so many lines of a `randsequence` under this seed.
+pub record IsSeq (words : List Text) (seed count : ℕ) : Type 0 where
+  pub named : slice_get words 0 ≡ Some (codes "seq")
+  pub taken : fault_of seq_command words ≡ []
+  pub seeded : seed ≡ number_or 0 (one_of (codes "seed") (matches_of seq_command words))
+  pub counted : count ≡ number_or 1 (one_of (codes "count") (matches_of seq_command words))
+
 -- the words ask for none of these
 pub record AskNothing (words : List Text) : Type 0 where
   pub no_run : (opts : Options) → IsCommand words opts → ⊥
   pub no_load : (count : ℕ) (opts : Options) → IsLoad words count opts → ⊥
   pub no_check : IsCheck words → ⊥
+  pub no_seq : (seed count : ℕ) → IsSeq words seed count → ⊥
 
 -- what is printed for such words
 abbrev pub usage_text : List ℕ
-usage_text = codes "usage: svrand run [--seed N] [--budget N] [--size-cap N] [--proofs]\n       svrand load N [--seed N] [--budget N] [--size-cap N] [--proofs]\n       svrand check\n"
+usage_text = codes "usage: svrand run [--seed N] [--budget N] [--size-cap N] [--proofs]\n       svrand load N [--seed N] [--budget N] [--size-cap N] [--proofs]\n       svrand check\n       svrand seq [--seed N] [--count N]\n"

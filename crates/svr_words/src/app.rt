@@ -79,3 +79,12 @@ pub fn check_command<'a>(alloc: Global) -> Command<'a>
 {
     plain(alloc, "check")
 }
+
+/// `seq`, with the seed and the number of lines.
+pub fn seq_command<'a>(alloc: Global) -> Result<Command<'a>, AllocError>
+    ensures { IfOk result (λ c. app_of c ≡ spec.seq_command) }
+{
+    plain(alloc, "seq")
+        .arg(option(alloc, "seed", ValueParser::unsigned(0, u64::MAX)))?
+        .arg(option(alloc, "count", ValueParser::unsigned(1, 100_000)))
+}

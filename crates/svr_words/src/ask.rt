@@ -1,12 +1,12 @@
 // What words ask for.
 ghost use Rattle.std.specs.Prelude.{◌≡◌, ◌≤◌, ℕ, List, Some, true, false, codes, map, slice_get, IfOk, IfSome, IfNone, string_bytes};
 ghost use Rattle.svr_phase.specs.declared.options.Options.{Options};
-ghost use Rattle.svr_words.specs.Words.{IsCommand, IsLoad, IsCheck, AskNothing};
+ghost use Rattle.svr_words.specs.Words.{IsCommand, IsLoad, IsCheck, IsSeq, AskNothing};
 ghost use Rattle.svr_words.specs.Taken.{AreInRange, Asks};
 
-use crate::app::{check_command, load_command, run_command};
-use crate::request::{Load, Request};
-use crate::take::{load_of, options};
+use crate::app::{check_command, load_command, run_command, seq_command};
+use crate::request::{Lines, Load, Request};
+use crate::take::{load_of, options, seq_of};
 use clap::error::ErrorKind;
 use std::alloc::{AllocError, Global};
 use svr_phase::Options;
@@ -105,6 +105,37 @@ fn check_asked(alloc: Global, words: &[String]) -> Result<Option<Request>, Alloc
     }
 }
 
+/// The lines in words of which the first names the command, as `clap` takes them.
+fn seq_taken(alloc: Global, words: &[String]) -> Result<Option<Lines>, AllocError>
+    requires { slice_get (map (λ w. string_bytes w) words.now) 0 ≡ Some (codes "seq") }
+    ensures some { IfOk result (λ r. IfSome r (λ lines. IsSeq (map (λ w. string_bytes w) words.now) lines.seed lines.count)) }
+    ensures none { IfOk result (λ r. IfNone r ((seed count : ℕ) → IsSeq (map (λ w. string_bytes w) words.now) seed count → ⊥)) }
+{
+    let command = seq_command(alloc)?;
+    match command.try_get_matches_from(words) {
+        Ok(matches) => Ok(Some(seq_of(&matches))),
+        Err(error) => {
+            if error.kind() == ErrorKind::OutOfMemory {
+                Err(AllocError)
+            } else {
+                Ok(None)
+            }
+        }
+    }
+}
+
+#[tactic(auto, using(crate::proofs::Taking::nothing_for_seq))]
+fn seq_asked(alloc: Global, words: &[String]) -> Result<Option<Request>, AllocError>
+    requires { slice_get (map (λ w. string_bytes w) words.now) 0 ≡ Some (codes "seq") }
+    ensures some { IfOk result (λ r. IfSome r (Asks (map (λ w. string_bytes w) words.now))) }
+    ensures none { IfOk result (λ r. IfNone r (AskNothing (map (λ w. string_bytes w) words.now))) }
+{
+    match seq_taken(alloc, words)? {
+        Some(lines) => Ok(Some(Request::Seq(lines))),
+        None => Ok(None),
+    }
+}
+
 /// What the words ask for. None where no command is theirs.
 pub fn command(alloc: Global, words: &[String]) -> Result<Option<Request>, AllocError>
     ensures some { IfOk result (λ r. IfSome r (Asks (map (λ w. string_bytes w) words.now))) }
@@ -118,6 +149,8 @@ pub fn command(alloc: Global, words: &[String]) -> Result<Option<Request>, Alloc
                 load_asked(alloc, words)
             } else if name.as_str() == "check" {
                 check_asked(alloc, words)
+            } else if name.as_str() == "seq" {
+                seq_asked(alloc, words)
             } else {
                 Ok(None)
             }

@@ -9,6 +9,13 @@ pub struct Load {
     pub opts: Options,
 }
 
+/// Lines of a `randsequence`: how many, from 1 to 100,000, and the seed of their words.
+#[derive(Clone, Copy)]
+pub struct Lines {
+    pub seed: u64,
+    pub count: u32,
+}
+
 /// What words can ask for.
 #[derive(Clone, Copy)]
 pub enum Request {
@@ -18,4 +25,6 @@ pub enum Request {
     Load(Load),
     /// A check of the derivation that is read.
     Check,
+    /// Lines of the `randsequence` that is read.
+    Seq(Lines),
 }

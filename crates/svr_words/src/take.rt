@@ -3,9 +3,9 @@ ghost use Rattle.std.specs.Prelude.{◌≡◌, ◌≤◌, ◌<◌, ◌^◌, ℕ,
 ghost use Rattle.clap.specs.Matches.{found_of};
 ghost use Rattle.clap.specs.Walk.{one_of, rows_of};
 ghost use Rattle.svr_words.specs.Words.{number_or, is_set, options_of};
-ghost use Rattle.svr_words.specs.Taken.{IsNumber, IsTruth, AreTaken, AreInRange, LoadIsTaken};
+ghost use Rattle.svr_words.specs.Taken.{IsNumber, IsTruth, AreTaken, AreInRange, LoadIsTaken, SeqIsTaken};
 
-use crate::request::Load;
+use crate::request::{Lines, Load};
 use clap::ArgMatches;
 use svr_phase::Options;
 
@@ -54,5 +54,18 @@ pub fn load_of(matches: &ArgMatches<'_>) -> Load
     Load {
         count: count as u32,
         opts: options(matches),
+    }
+}
+
+/// The seed of lines, and how many there are to be.
+pub fn seq_of(matches: &ArgMatches<'_>) -> Lines
+    requires { SeqIsTaken (found_of matches.now) }
+    ensures seed { result.seed ≡ number_or 0 (one_of (codes "seed") (rows_of (found_of matches.now))) }
+    ensures count { result.count ≡ number_or 1 (one_of (codes "count") (rows_of (found_of matches.now))) }
+{
+    let count = number(matches, "count", 1);
+    Lines {
+        seed: number(matches, "seed", 0),
+        count: count as u32,
     }
 }

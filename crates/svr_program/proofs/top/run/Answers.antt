@@ -2,13 +2,13 @@ use Rattle.std.proofs.Common.{map, string_bytes, refl, inl}
 use Rattle.std.proofs.KnownBytes.{Keeps-refl}
 use Rattle.svr_limits.specs.declared.limit.TheConstants.{TEXT_LIMIT}
 use Rattle.svr_lrat_text.specs.declared.limits.TheConstants.{MOST_TEXT}
-use Rattle.svr_words.specs.Words.{AskNothing, IsCheck}
+use Rattle.svr_words.specs.Words.{AskNothing, IsCheck, IsSeq}
 use Rattle.svr_words.specs.Taken.{Asks}
-use Rattle.svr_program.specs.Outcome.{a_script, a_derivation}
+use Rattle.svr_program.specs.Outcome.{a_script, a_derivation, a_sequence}
 use Rattle.svr_words.specs.declared.request.Request.TheVariants.{Run, Load}
 use Rattle.svr_status.proofs.Told.{ends_unread, read_for, extent_for}
-use Rattle.svr_program.proofs.Said.{usage_told, source_is_said, made_is_said, checked_is_said}
-use Rattle.svr_program.proofs.Commands.{run_reads, check_reads, load_reads_nothing, none_reads}
+use Rattle.svr_program.proofs.Said.{usage_told, source_is_said, made_is_said, checked_is_said, lines_are_said}
+use Rattle.svr_program.proofs.Commands.{run_reads, check_reads, seq_reads, load_reads_nothing, none_reads}
 use Rattle.svr_answer.proofs.Loads.{load_no_usage}
 use Rattle.svr_program.proofs.top.run.Goals as goal
 
@@ -155,3 +155,36 @@ returns-in-Check-clause-unread g c =
 
 pub returns-in-Check-clause-write_fault : goal.returns-in-Check-clause-write_fault
 returns-in-Check-clause-write_fault g c = λ e. inl (c.check_source.ensures.write_fault e)
+
+-- ---- lines
+
+pub returns-in-Seq-clause-headline : goal.returns-in-Seq-clause-headline
+returns-in-Seq-clause-headline g c =
+    let asked : IsSeq (map (λ w. string_bytes w) c.args.words.now) c.in-Seq.lines.seed c.in-Seq.lines.count = rw (c.in-Ok-Some.field-0-is, c.in-Seq.is) at c.in-Ok-Some.ensures.some in
+    lines_are_said (g.S.Source.left c.args.src.now) (map (λ w. string_bytes w) c.args.words.now) c.in-Seq.lines.seed c.in-Seq.lines.count c.seq_source.result _ _ asked (c.seq_source.ensures.writing (g.J.Sink.written c.args.journal.now) (g.J.Sink.faults c.args.journal.now))
+
+pub returns-in-Seq-clause-extent : goal.returns-in-Seq-clause-extent
+returns-in-Seq-clause-extent g c =
+    let asked : IsSeq (map (λ w. string_bytes w) c.args.words.now) c.in-Seq.lines.seed c.in-Seq.lines.count = rw (c.in-Ok-Some.field-0-is, c.in-Seq.is) at c.in-Ok-Some.ensures.some in
+    λ limit reads. extent_for TEXT_LIMIT limit _ c.seq_source.result _ _ (seq_reads (map (λ w. string_bytes w) c.args.words.now) c.in-Seq.lines.seed c.in-Seq.lines.count limit asked reads) c.seq_source.ensures.extent
+
+pub returns-in-Seq-clause-usage : goal.returns-in-Seq-clause-usage
+returns-in-Seq-clause-usage g c = λ e. absurd (c.seq_source.ensures.command e)
+
+pub returns-in-Seq-clause-no_command : goal.returns-in-Seq-clause-no_command
+returns-in-Seq-clause-no_command g c =
+    let asked : IsSeq (map (λ w. string_bytes w) c.args.words.now) c.in-Seq.lines.seed c.in-Seq.lines.count = rw (c.in-Ok-Some.field-0-is, c.in-Seq.is) at c.in-Ok-Some.ensures.some in
+    λ none. absurd (none.no_seq c.in-Seq.lines.seed c.in-Seq.lines.count asked)
+
+pub returns-in-Seq-clause-read : goal.returns-in-Seq-clause-read
+returns-in-Seq-clause-read g c =
+    let asked : IsSeq (map (λ w. string_bytes w) c.args.words.now) c.in-Seq.lines.seed c.in-Seq.lines.count = rw (c.in-Ok-Some.field-0-is, c.in-Seq.is) at c.in-Ok-Some.ensures.some in
+    λ limit reads. read_for TEXT_LIMIT limit c.seq_source.result _ _ (seq_reads (map (λ w. string_bytes w) c.args.words.now) c.in-Seq.lines.seed c.in-Seq.lines.count limit asked reads) c.seq_source.ensures.read
+
+pub returns-in-Seq-clause-unread : goal.returns-in-Seq-clause-unread
+returns-in-Seq-clause-unread g c =
+    let asked : IsSeq (map (λ w. string_bytes w) c.args.words.now) c.in-Seq.lines.seed c.in-Seq.lines.count = rw (c.in-Ok-Some.field-0-is, c.in-Seq.is) at c.in-Ok-Some.ensures.some in
+    λ none. absurd (none TEXT_LIMIT (a_sequence c.in-Seq.lines.seed c.in-Seq.lines.count asked refl))
+
+pub returns-in-Seq-clause-write_fault : goal.returns-in-Seq-clause-write_fault
+returns-in-Seq-clause-write_fault g c = λ e. inl (c.seq_source.ensures.write_fault e)

@@ -16,3 +16,8 @@ pub check_asked-requires : goal.check_asked-requires
 check_asked-requires c =
     let check : string_bytes c.name-item.result ≡ codes "check" = search rules in
     head_is (λ w. string_bytes w) c.args.words.now c.name-item.result c.in-len1-up.len_at_least c.name-item.is ∙ ap (λ (t : List ℕ). Some t) check
+
+pub seq_asked-requires : goal.seq_asked-requires
+seq_asked-requires c =
+    let seq : string_bytes c.name-item.result ≡ codes "seq" = search rules in
+    head_is (λ w. string_bytes w) c.args.words.now c.name-item.result c.in-len1-up.len_at_least c.name-item.is ∙ ap (λ (t : List ℕ). Some t) seq

@@ -1,0 +1,11 @@
+use Rattle.svr_stream.proofs.Putting.{puts_whole, all_written, front_written, cause_of}
+use Rattle.svr_seq_lines.proofs.line.print.Goals as goal
+
+pub returns-clause-whole : goal.returns-clause-whole
+returns-clause-whole g c = all_written c.finish.result _ _ _ _ _ (puts_whole c.finish.result c.new-text.ensures c.put_line.ensures c.finish.ensures)
+
+pub returns-clause-front : goal.returns-clause-front
+returns-clause-front g c = front_written c.finish.result _ _ _ _ _ (puts_whole c.finish.result c.new-text.ensures c.put_line.ensures c.finish.ensures)
+
+pub returns-clause-cause : goal.returns-clause-cause
+returns-clause-cause g c = cause_of c.finish.result _ _ _ _ _ (puts_whole c.finish.result c.new-text.ensures c.put_line.ensures c.finish.ensures)
