@@ -6,7 +6,7 @@ use crate::outcome::in_block;
 type Row = (&'static [u8], Outcome);
 
 // numbers of refusals: 7 a name that stands for nothing there, 9 over 64 bits, 10 no constant, 11 a range, 21 an index that can be random, 24 an array or a row as a value
-const NAMES: [Row; 12] = [
+const NAMES: &[Row] = &[
     (b"z", Refused(7, 0)),
     (b"z + z", Refused(7, 0)),
     (b"a + z", Refused(7, 2)),
@@ -21,7 +21,7 @@ const NAMES: [Row; 12] = [
     (b"this.v", Unsigned(8)),
 ];
 
-const SIZES: [Row; 20] = [
+const SIZES: &[Row] = &[
     (b"5", Signed(32)),
     (b"'1", Unsigned(1)),
     (b"8'shff", Signed(8)),
@@ -44,7 +44,7 @@ const SIZES: [Row; 20] = [
     (b"d.size", Signed(32)),
 ];
 
-const WHOLES: [Row; 14] = [
+const WHOLES: &[Row] = &[
     (b"{a, v}", Unsigned(12)),
     (b"{n, n}", Unsigned(64)),
     (b"{n, n, a}", Refused(9, 0)),
@@ -62,7 +62,7 @@ const WHOLES: [Row; 14] = [
     (b"{d.size{v}}", Refused(10, 1)),
 ];
 
-const SELECTS: [Row; 23] = [
+const SELECTS: &[Row] = &[
     (b"v[3]", Unsigned(1)),
     // past the vector, which is no refusal of a bit-select
     (b"v[9]", Unsigned(1)),
@@ -89,7 +89,7 @@ const SELECTS: [Row; 23] = [
     (b"v[a:n]", Refused(10, 2)),
 ];
 
-const ARRAYS: [Row; 11] = [
+const ARRAYS: &[Row] = &[
     (b"d", Refused(24, 0)),
     (b"(d)", Refused(24, 1)),
     (b"a + m", Refused(24, 2)),
@@ -106,34 +106,34 @@ const ARRAYS: [Row; 11] = [
 #[test]
 fn names(rt: HostRuntime) {
     for (text, wanted) in NAMES {
-        assert_eq!(rt; in_block(rt.alloc(), text), wanted);
+        assert!(rt; in_block(rt.alloc(), text) == *wanted);
     }
 }
 
 #[test]
 fn sizes(rt: HostRuntime) {
     for (text, wanted) in SIZES {
-        assert_eq!(rt; in_block(rt.alloc(), text), wanted);
+        assert!(rt; in_block(rt.alloc(), text) == *wanted);
     }
 }
 
 #[test]
 fn wholes(rt: HostRuntime) {
     for (text, wanted) in WHOLES {
-        assert_eq!(rt; in_block(rt.alloc(), text), wanted);
+        assert!(rt; in_block(rt.alloc(), text) == *wanted);
     }
 }
 
 #[test]
 fn selects(rt: HostRuntime) {
     for (text, wanted) in SELECTS {
-        assert_eq!(rt; in_block(rt.alloc(), text), wanted);
+        assert!(rt; in_block(rt.alloc(), text) == *wanted);
     }
 }
 
 #[test]
 fn arrays(rt: HostRuntime) {
     for (text, wanted) in ARRAYS {
-        assert_eq!(rt; in_block(rt.alloc(), text), wanted);
+        assert!(rt; in_block(rt.alloc(), text) == *wanted);
     }
 }

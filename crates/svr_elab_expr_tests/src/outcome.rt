@@ -18,9 +18,10 @@ use svr_elab_names::{ClassNames, Global as Stands, NameSpace, PropEntry, Region,
 use svr_elab_part::{Part, Shape};
 use svr_lex::lex;
 use svr_token::{Names, Token};
+use svr_typed::NoMemory;
 
 /// A first refusal, by its number and token, or the size and sign of what is accepted.
-#[derive(Clone, Copy, Debug, PartialEq, Eq)]
+#[derive(Clone, Copy, PartialEq, Eq)]
 pub enum Outcome {
     Refused(u8, u32),
     Unsigned(u8),
@@ -29,15 +30,34 @@ pub enum Outcome {
     Nothing,
 }
 
-fn what_is_said(part: &Part) -> Outcome {
-    match (part.fault, part.shape) {
-        (Some(fault), _) => Outcome::Refused(fault.refusal.number(), fault.token),
-        (None, None) => Outcome::Nothing,
-        (None, Some(Shape { width, signed })) => if signed {
-            Outcome::Signed(width)
-        } else {
-            Outcome::Unsigned(width)
-        },
+/// Lets go what was held, in the place of a function that knows what it is.
+fn let_go<T: Drop>(_held: T) {}
+
+/// What is known of something.
+trait Known {
+    /// Its refusal, or its size and sign.
+    fn tell(&self) -> Outcome;
+}
+
+impl Known for Part {
+    fn tell(&self) -> Outcome {
+        match (self.fault, self.shape) {
+            (Some(fault), _) => Outcome::Refused(fault.refusal.number(), fault.token),
+            (None, None) => Outcome::Nothing,
+            (None, Some(Shape { width, signed })) => if signed {
+                Outcome::Signed(width)
+            } else {
+                Outcome::Unsigned(width)
+            },
+        }
+    }
+}
+
+/// What is said of what was found. It is let go here, whatever it is, so that no other function has to.
+fn outcome_of<T: Known + Drop>(found: Result<T, NoMemory>) -> Outcome {
+    match &found {
+        Ok(part) => part.tell(),
+        Err(_) => Outcome::Nothing,
     }
 }
 
@@ -74,100 +94,198 @@ fn said<'s, 'a>(
         vars: place.vars,
         made: place.made,
     };
-    match read(alloc, text, tokens) {
+    let tree = read(alloc, text, tokens);
+    let outcome = match &tree {
+        Ok(tree) => outcome_of(value(alloc, tree, &names)),
         Err(_) => Outcome::Nothing,
-        Ok(tree) => match value(alloc, &tree, &names) {
-            Err(_) => Outcome::Nothing,
-            Ok(part) => what_is_said(&part),
-        },
-    }
+    };
+    let_go(tree);
+    outcome
 }
 
-fn at_place<'s, 'a>(
+/// What is said of a text, which has these tokens.
+fn among<'s, 'a>(
     alloc: Global,
     text: &'a [u8],
+    tokens: &'a [Token],
     place: Place<'s, 'a>,
-) -> Result<Outcome, AllocError>
+) -> Outcome
+    requires spelled { All (λ t. (l : LexemeType) × IsTokenOf text.now t l) tokens.now }
+    requires vars { length place.vars.now.entries < 2 ^ 32 }
+{
+    let globals = members(alloc);
+    let later = IndexSet::new(alloc);
+    let outcome = match &globals {
+        Ok(globals) => said(alloc, text, tokens, globals, &later, place),
+        Err(_) => Outcome::Nothing,
+    };
+    let_go((globals, later));
+    outcome
+}
+
+fn at_place<'s, 'a>(alloc: Global, text: &'a [u8], place: Place<'s, 'a>) -> Outcome
     requires { length place.vars.now.entries < 2 ^ 32 }
 {
     if text.len() > 1000 {
-        return Ok(Outcome::Nothing);
+        return Outcome::Nothing;
     }
-    let Ok(tokens) = lex(alloc, text) else {
-        return Ok(Outcome::Nothing);
-    };
-    let globals = members(alloc)?;
-    let later = IndexSet::new(alloc);
-    Ok(said(alloc, text, &tokens, &globals, &later, place))
+    match lex(alloc, text) {
+        Ok(tokens) => among(alloc, text, &tokens, place),
+        Err(_) => Outcome::Nothing,
+    }
 }
 
-/// What elaboration says of a text in a constraint block of the class.
-pub fn in_block(alloc: Global, text: &[u8]) -> Outcome {
-    block(alloc, text).unwrap_or(Outcome::Nothing)
-}
+// ---- blocks
 
-fn block(alloc: Global, text: &[u8]) -> Result<Outcome, AllocError> {
-    let props = properties(alloc)?;
+fn block<'a>(alloc: Global, text: &'a [u8], props: &IndexMap<&'a [u8], PropEntry>) -> Outcome {
     let vars = IndexMap::new(alloc);
     let made = IndexSet::new(alloc);
     let place = Place {
         region: Region::Block,
         classes: &[],
-        props: &props,
+        props,
         vars: &vars,
         made: &made,
     };
-    at_place(alloc, text, place)
+    let outcome = at_place(alloc, text, place);
+    let_go((vars, made));
+    outcome
 }
 
-/// What elaboration says of a text in a set that stands behind a call.
-pub fn in_set(alloc: Global, text: &[u8]) -> Outcome {
-    set(alloc, text).unwrap_or(Outcome::Nothing)
+/// What elaboration says of a text in a constraint block of the class.
+pub fn in_block(alloc: Global, text: &[u8]) -> Outcome {
+    let props = properties(alloc);
+    let outcome = match &props {
+        Ok(props) => block(alloc, text, props),
+        Err(_) => Outcome::Nothing,
+    };
+    let_go(props);
+    outcome
 }
 
-fn set(alloc: Global, text: &[u8]) -> Result<Outcome, AllocError> {
-    let props = properties(alloc)?;
-    let vars = variables(alloc)?;
+// ---- sets
+
+fn set_beside<'a>(
+    alloc: Global,
+    text: &'a [u8],
+    props: &IndexMap<&'a [u8], PropEntry>,
+    vars: &IndexMap<&'a [u8], VarStand>,
+) -> Outcome {
     if vars.len() > 10 {
-        return Ok(Outcome::Nothing);
+        return Outcome::Nothing;
     }
     let made = IndexSet::new(alloc);
     let place = Place {
         region: Region::InLine,
         classes: &[],
-        props: &props,
-        vars: &vars,
+        props,
+        vars,
         made: &made,
     };
-    at_place(alloc, text, place)
+    let outcome = at_place(alloc, text, place);
+    let_go(made);
+    outcome
+}
+
+fn set<'a>(alloc: Global, text: &'a [u8], props: &IndexMap<&'a [u8], PropEntry>) -> Outcome {
+    let vars = variables(alloc);
+    let outcome = match &vars {
+        Ok(vars) => set_beside(alloc, text, props, vars),
+        Err(_) => Outcome::Nothing,
+    };
+    let_go(vars);
+    outcome
+}
+
+/// What elaboration says of a text in a set that stands behind a call.
+pub fn in_set(alloc: Global, text: &[u8]) -> Outcome {
+    let props = properties(alloc);
+    let outcome = match &props {
+        Ok(props) => set(alloc, text, props),
+        Err(_) => Outcome::Nothing,
+    };
+    let_go(props);
+    outcome
+}
+
+// ---- statements
+
+/// The class alone, with its properties.
+fn class<'a>(alloc: Global) -> Result<Vec<ClassNames<'a>>, AllocError> {
+    let props = properties(alloc)?;
+    let mut classes = Vec::new(alloc);
+    classes.push(ClassNames {
+        name: b"c",
+        base: None,
+        props,
+        inherited: 0,
+        blocks: Items::new(alloc),
+    })?;
+    Ok(classes)
+}
+
+/// The first variable has an object.
+fn first_made(alloc: Global) -> Result<IndexSet<u32>, AllocError> {
+    let mut made = IndexSet::new(alloc);
+    made.insert(0u32)?;
+    Ok(made)
+}
+
+fn behind_new<'a>(
+    alloc: Global,
+    text: &'a [u8],
+    vars: &IndexMap<&'a [u8], VarStand>,
+    classes: &[ClassNames<'a>],
+    made: &IndexSet<u32>,
+) -> Outcome {
+    if vars.len() > 10 {
+        return Outcome::Nothing;
+    }
+    let props = IndexMap::new(alloc);
+    let place = Place {
+        region: Region::Statement,
+        classes,
+        props: &props,
+        vars,
+        made,
+    };
+    let outcome = at_place(alloc, text, place);
+    let_go(props);
+    outcome
+}
+
+fn of_class<'a>(
+    alloc: Global,
+    text: &'a [u8],
+    vars: &IndexMap<&'a [u8], VarStand>,
+    classes: &[ClassNames<'a>],
+) -> Outcome {
+    let made = first_made(alloc);
+    let outcome = match &made {
+        Ok(made) => behind_new(alloc, text, vars, classes, made),
+        Err(_) => Outcome::Nothing,
+    };
+    let_go(made);
+    outcome
+}
+
+fn statement<'a>(alloc: Global, text: &'a [u8], vars: &IndexMap<&'a [u8], VarStand>) -> Outcome {
+    let classes = class(alloc);
+    let outcome = match &classes {
+        Ok(classes) => of_class(alloc, text, vars, classes.as_slice()),
+        Err(_) => Outcome::Nothing,
+    };
+    let_go(classes);
+    outcome
 }
 
 /// What elaboration says of a text in a statement, where `p` has an object and `q` has none.
 pub fn in_statement(alloc: Global, text: &[u8]) -> Outcome {
-    statement(alloc, text).unwrap_or(Outcome::Nothing)
-}
-
-fn statement(alloc: Global, text: &[u8]) -> Result<Outcome, AllocError> {
-    let vars = variables(alloc)?;
-    if vars.len() > 10 {
-        return Ok(Outcome::Nothing);
-    }
-    let mut made = IndexSet::new(alloc);
-    made.insert(0u32)?;
-    let classes = [ClassNames {
-        name: b"c",
-        base: None,
-        props: properties(alloc)?,
-        inherited: 0,
-        blocks: Items::new(alloc),
-    }];
-    let props = IndexMap::new(alloc);
-    let place = Place {
-        region: Region::Statement,
-        classes: &classes,
-        props: &props,
-        vars: &vars,
-        made: &made,
+    let vars = variables(alloc);
+    let outcome = match &vars {
+        Ok(vars) => statement(alloc, text, vars),
+        Err(_) => Outcome::Nothing,
     };
-    at_place(alloc, text, place)
+    let_go(vars);
+    outcome
 }

@@ -32,33 +32,27 @@ fn property(number: u32, kind: Vector, rand: Rand, dims: Dims) -> PropEntry {
     PropEntry { property, first: 0 }
 }
 
+// a property: its name, its width and sign, the number of its lowest bit, its `rand`, and its dimensions
+type Row = (&'static [u8], u8, bool, i64, Rand, Dims);
+
+const PROPERTIES: &[Row] = &[
+    (b"a", 4, false, 0, Rand::Rand, Dims::Scalar),
+    (b"v", 8, false, 0, Rand::State, Dims::Scalar),
+    (b"h", 8, false, 4, Rand::State, Dims::Scalar),
+    (b"n", 32, true, 0, Rand::State, Dims::Scalar),
+    (b"d", 8, false, 0, Rand::Rand, Dims::Dynamic),
+    (b"m", 4, false, 0, Rand::State, Dims::Rows(Some(2), Some(3))),
+];
+
 /// `rand bit [3:0] a; bit [7:0] v; bit [11:4] h; int n; rand bit [7:0] d[]; bit [3:0] m[2][3];`
 pub fn properties<'a>(alloc: Global) -> Result<IndexMap<&'a [u8], PropEntry>, AllocError> {
     let mut found = IndexMap::new(alloc);
-    let nibble = bits(4, false, 0);
-    let byte = bits(8, false, 0);
-    let rows = Dims::Rows(Some(2), Some(3));
-    found.insert(
-        b"a".as_slice(),
-        property(0, nibble, Rand::Rand, Dims::Scalar),
-    )?;
-    found.insert(
-        b"v".as_slice(),
-        property(1, byte, Rand::State, Dims::Scalar),
-    )?;
-    found.insert(
-        b"h".as_slice(),
-        property(2, bits(8, false, 4), Rand::State, Dims::Scalar),
-    )?;
-    found.insert(
-        b"n".as_slice(),
-        property(3, bits(32, true, 0), Rand::State, Dims::Scalar),
-    )?;
-    found.insert(
-        b"d".as_slice(),
-        property(4, byte, Rand::Rand, Dims::Dynamic),
-    )?;
-    found.insert(b"m".as_slice(), property(5, nibble, Rand::State, rows))?;
+    let mut number = 0u32;
+    for (name, width, signed, low, rand, dims) in PROPERTIES {
+        let kind = bits(*width, *signed, *low);
+        found.insert(*name, property(number, kind, *rand, *dims))?;
+        number = number.saturating_add(1);
+    }
     Ok(found)
 }
 
@@ -77,11 +71,16 @@ pub fn members<'a>(alloc: Global) -> Result<IndexMap<&'a [u8], Stands>, AllocErr
     Ok(found)
 }
 
+// object variables of the class
+const OBJECTS: &[&[u8]] = &[b"p", b"q"];
+
 /// Two object variables of the class, `p` and `q`, and `int c`.
 pub fn variables<'a>(alloc: Global) -> Result<IndexMap<&'a [u8], VarStand>, AllocError> {
     let mut found = IndexMap::new(alloc);
-    found.insert(b"p".as_slice(), VarStand::OfObject(0))?;
-    found.insert(b"q".as_slice(), VarStand::OfObject(0))?;
-    found.insert(b"c".as_slice(), VarStand::OfNumber(Some(bits(32, true, 0))))?;
+    for name in OBJECTS {
+        found.insert(*name, VarStand::OfObject(0))?;
+    }
+    let number = VarStand::OfNumber(Some(bits(32, true, 0)));
+    found.insert(b"c".as_slice(), number)?;
     Ok(found)
 }

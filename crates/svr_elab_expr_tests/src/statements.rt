@@ -4,7 +4,7 @@ use crate::outcome::Outcome::{self, Refused, Signed, Unsigned};
 use crate::outcome::in_statement;
 
 // numbers of refusals: 7 a name that stands for nothing there, 24 an array as a value, 26 a variable without an object
-const OBJECTS: [(&[u8], Outcome); 14] = [
+const OBJECTS: &[(&[u8], Outcome)] = &[
     (b"c", Signed(32)),
     (b"e", Unsigned(4)),
     (b"a", Refused(7, 0)),
@@ -26,6 +26,6 @@ const OBJECTS: [(&[u8], Outcome); 14] = [
 #[test]
 fn objects(rt: HostRuntime) {
     for (text, wanted) in OBJECTS {
-        assert_eq!(rt; in_statement(rt.alloc(), text), wanted);
+        assert!(rt; in_statement(rt.alloc(), text) == *wanted);
     }
 }

@@ -5,7 +5,7 @@ use crate::saying::{is_accepted, is_refused};
 // Each text is one line. Behind it stands the column of the place where it is refused, before that the number where a table has two.
 
 // 14: a soft item that mentions a cyclic property, its guards counted: `soft`
-const SOFT: [(&[u8], u32); 8] = [
+const SOFT: &[(&[u8], u32)] = &[
     (
         b"class C; randc bit a; constraint c { soft a == 0; } endclass module m; initial begin end endmodule",
         38,
@@ -41,7 +41,7 @@ const SOFT: [(&[u8], u32); 8] = [
 ];
 
 // 15: the left side of a distribution mentions a cyclic property; 16: it mentions nothing that can be random: `dist`
-const DIST: [(&[u8], u8, u32); 12] = [
+const DIST: &[(&[u8], u8, u32)] = &[
     (
         b"class C; randc bit a; constraint c { a dist {0}; } endclass module m; initial begin end endmodule",
         15,
@@ -105,7 +105,7 @@ const DIST: [(&[u8], u8, u32); 12] = [
 ];
 
 // 17: the first member that differs from the first in width or sign; 18: a cyclic member
-const UNIQUE: [(&[u8], u8, u32); 8] = [
+const UNIQUE: &[(&[u8], u8, u32)] = &[
     (
         b"class C; rand bit a; rand bit [1:0] b; constraint c { unique {a, b}; } endclass module m; initial begin end endmodule",
         17,
@@ -149,7 +149,7 @@ const UNIQUE: [(&[u8], u8, u32); 8] = [
 ];
 
 // 19: a name in `solve` that is cyclic, or not declared `rand`; 20: the `solve` with which a property stands before itself
-const SOLVE: [(&[u8], u8, u32); 11] = [
+const SOLVE: &[(&[u8], u8, u32)] = &[
     (
         b"class C; randc bit a; rand bit b; constraint c { solve a before b; } endclass module m; initial begin end endmodule",
         19,
@@ -208,7 +208,7 @@ const SOLVE: [(&[u8], u8, u32); 11] = [
 ];
 
 // 21: an index of a bit, or of what is disabled, that can be random: its first token
-const INDEXES: [(&[u8], u32); 11] = [
+const INDEXES: &[(&[u8], u32)] = &[
     (
         b"class C; bit [7:0] b; rand bit [2:0] x; constraint c { b[x] == 1; } endclass module m; initial begin end endmodule",
         58,
@@ -256,7 +256,7 @@ const INDEXES: [(&[u8], u32); 11] = [
 ];
 
 // 22: a weight, or a guard over `disable soft`, that can be random, sizes counted: its first token
-const STATE: [(&[u8], u32); 12] = [
+const STATE: &[(&[u8], u32)] = &[
     (
         b"class C; rand bit a; constraint c { a dist {1 := a}; } endclass module m; initial begin end endmodule",
         50,
@@ -308,7 +308,7 @@ const STATE: [(&[u8], u32); 12] = [
 ];
 
 // texts beside these that have a design
-const ACCEPTED: [&[u8]; 16] = [
+const ACCEPTED: &[&[u8]] = &[
     b"class P; randc bit a; rand bit b; constraint c { a == 0; soft b == 1; disable soft a; } endclass module m; bit a; initial begin P p = new; p.randomize() with { soft b == local::a; }; end endmodule",
     b"class C; randc bit a; rand bit b; constraint c { b dist {a, [0:a] := 2}; if (a) b dist {0}; } endclass module m; initial begin end endmodule",
     b"class C; rand bit d []; bit s; constraint c { d.size() dist {1}; s + d[0] dist {1}; } endclass module m; initial begin end endmodule",
@@ -330,42 +330,42 @@ const ACCEPTED: [&[u8]; 16] = [
 #[test]
 fn a_soft_item_of_a_cyclic_property_is_refused(rt: HostRuntime) {
     for (text, column) in SOFT {
-        assert!(rt; is_refused(rt.alloc(), text, 14, 1, column));
+        assert!(rt; is_refused(rt.alloc(), text, 14, 1, *column));
     }
 }
 
 #[test]
 fn a_distribution_of_what_is_cyclic_or_not_random_is_refused(rt: HostRuntime) {
     for (text, number, column) in DIST {
-        assert!(rt; is_refused(rt.alloc(), text, number, 1, column));
+        assert!(rt; is_refused(rt.alloc(), text, *number, 1, *column));
     }
 }
 
 #[test]
 fn members_of_unique_that_differ_or_are_cyclic_are_refused(rt: HostRuntime) {
     for (text, number, column) in UNIQUE {
-        assert!(rt; is_refused(rt.alloc(), text, number, 1, column));
+        assert!(rt; is_refused(rt.alloc(), text, *number, 1, *column));
     }
 }
 
 #[test]
 fn an_order_of_what_is_not_rand_or_in_a_circle_is_refused(rt: HostRuntime) {
     for (text, number, column) in SOLVE {
-        assert!(rt; is_refused(rt.alloc(), text, number, 1, column));
+        assert!(rt; is_refused(rt.alloc(), text, *number, 1, *column));
     }
 }
 
 #[test]
 fn a_random_index_of_a_bit_or_of_a_disabled_element_is_refused(rt: HostRuntime) {
     for (text, column) in INDEXES {
-        assert!(rt; is_refused(rt.alloc(), text, 21, 1, column));
+        assert!(rt; is_refused(rt.alloc(), text, 21, 1, *column));
     }
 }
 
 #[test]
 fn a_random_weight_or_guard_over_disable_soft_is_refused(rt: HostRuntime) {
     for (text, column) in STATE {
-        assert!(rt; is_refused(rt.alloc(), text, 22, 1, column));
+        assert!(rt; is_refused(rt.alloc(), text, 22, 1, *column));
     }
 }
 

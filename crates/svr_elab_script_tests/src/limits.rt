@@ -16,7 +16,7 @@ struct Series {
     column: u32,
 }
 
-const SERIES: [Series; 8] = [
+const SERIES: &[Series] = &[
     // properties of a class
     Series {
         front: b"class C; bit ",
@@ -146,7 +146,7 @@ fn is_limited(alloc: Global, series: &Series) -> bool {
 
 #[test]
 fn lists_are_limited(rt: HostRuntime) {
-    for series in &SERIES {
+    for series in SERIES {
         assert!(rt; is_limited(rt.alloc(), series));
     }
 }

@@ -5,7 +5,7 @@ use crate::saying::{is_accepted, is_refused};
 // Each text is one line. Behind it stands the column of the place where it is refused, before that the number where a table has two.
 
 // 7: a name that is not declared, or names nothing that may stand there, or a label that differs: the name
-const UNKNOWN: [(&[u8], u32); 54] = [
+const UNKNOWN: &[(&[u8], u32)] = &[
     (
         b"class C extends B; endclass module m; initial begin end endmodule",
         17,
@@ -201,7 +201,7 @@ const UNKNOWN: [(&[u8], u32); 54] = [
 ];
 
 // 8: a name that is declared twice in one scope, or listed twice in a call: the second
-const DOUBLE: [(&[u8], u32); 12] = [
+const DOUBLE: &[(&[u8], u32)] = &[
     (
         b"typedef enum { A, A } e; module m; initial begin end endmodule",
         19,
@@ -250,7 +250,7 @@ const DOUBLE: [(&[u8], u32); 12] = [
 ];
 
 // texts beside these that have a design
-const ACCEPTED: [&[u8]; 11] = [
+const ACCEPTED: &[&[u8]] = &[
     b"class A; endclass : A class B extends A; endclass : B module m; initial begin end endmodule : m",
     b"program m(); initial begin end endprogram : m",
     b"class C; constraint c { this.a == 1; a == 1; } rand bit a; endclass module m; initial begin end endmodule",
@@ -267,14 +267,14 @@ const ACCEPTED: [&[u8]; 11] = [
 #[test]
 fn a_name_that_stands_for_nothing_there_is_refused(rt: HostRuntime) {
     for (text, column) in UNKNOWN {
-        assert!(rt; is_refused(rt.alloc(), text, 7, 1, column));
+        assert!(rt; is_refused(rt.alloc(), text, 7, 1, *column));
     }
 }
 
 #[test]
 fn a_name_that_is_declared_or_listed_twice_is_refused(rt: HostRuntime) {
     for (text, column) in DOUBLE {
-        assert!(rt; is_refused(rt.alloc(), text, 8, 1, column));
+        assert!(rt; is_refused(rt.alloc(), text, 8, 1, *column));
     }
 }
 

@@ -3,7 +3,7 @@
 use crate::saying::is_refused;
 
 // a text, the number of its refusal, and the line and column of its place
-const SEVERAL: [(&[u8], u8, u32, u32); 5] = [
+const SEVERAL: &[(&[u8], u8, u32, u32)] = &[
     (
         b"class P; endclass module m; P q; initial begin q.z = 1; end endmodule",
         26,
@@ -37,7 +37,7 @@ const SEVERAL: [(&[u8], u8, u32, u32); 5] = [
 ];
 
 // a class, an object of it and a call, each on lines of its own
-const LINES: [(&[u8], u8, u32, u32); 6] = [
+const LINES: &[(&[u8], u8, u32, u32)] = &[
     (
         b"class P;\nrandc bit [8:0] a;\nendclass\nmodule m;\ninitial begin\nP p = new;\np.randomize();\nend\nendmodule\n",
         13,
@@ -79,13 +79,13 @@ const LINES: [(&[u8], u8, u32, u32); 6] = [
 #[test]
 fn the_first_refusal_by_its_place_is_told(rt: HostRuntime) {
     for (text, number, line, column) in SEVERAL {
-        assert!(rt; is_refused(rt.alloc(), text, number, line, column));
+        assert!(rt; is_refused(rt.alloc(), text, *number, *line, *column));
     }
 }
 
 #[test]
 fn places_are_told_by_line_and_column(rt: HostRuntime) {
     for (text, number, line, column) in LINES {
-        assert!(rt; is_refused(rt.alloc(), text, number, line, column));
+        assert!(rt; is_refused(rt.alloc(), text, *number, *line, *column));
     }
 }

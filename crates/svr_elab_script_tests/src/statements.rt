@@ -5,7 +5,7 @@ use crate::saying::{is_accepted, is_refused};
 // Each text is one line. Behind it stands the column of the place where it is refused, before that the number where a table has two.
 
 // 23: an enum is given anything but a member or variable of it: the first token of the expression
-const ENUM_VALUES: [(&[u8], u32); 10] = [
+const ENUM_VALUES: &[(&[u8], u32)] = &[
     (
         b"typedef enum { A, B } e; class C; e x = 0; endclass module m; initial begin end endmodule",
         41,
@@ -49,7 +49,7 @@ const ENUM_VALUES: [(&[u8], u32); 10] = [
 ];
 
 // 24: a form that is left out: the name, or the range
-const LEFT_OUT: [(&[u8], u32); 26] = [
+const LEFT_OUT: &[(&[u8], u32)] = &[
     (
         b"typedef bit [0:3] t; module m; initial begin end endmodule",
         13,
@@ -154,7 +154,7 @@ const LEFT_OUT: [(&[u8], u32); 26] = [
 ];
 
 // 25: a limit is passed: the declaration, the count, or the statement of the initial block with which it is
-const TOO_MANY: [(&[u8], u32); 14] = [
+const TOO_MANY: &[(&[u8], u32)] = &[
     (
         b"class C; bit d [2048], e [2049]; endclass module m; initial begin end endmodule",
         24,
@@ -214,7 +214,7 @@ const TOO_MANY: [(&[u8], u32); 14] = [
 ];
 
 // 26: a variable is used, and no `new` for it stands earlier in its list or around it: its name
-const WITHOUT_OBJECT: [(&[u8], u32); 8] = [
+const WITHOUT_OBJECT: &[(&[u8], u32)] = &[
     (
         b"class P; endclass module m; initial begin P p; p.randomize(); end endmodule",
         48,
@@ -250,7 +250,7 @@ const WITHOUT_OBJECT: [(&[u8], u32); 8] = [
 ];
 
 // texts beside these that have a design
-const ACCEPTED: [&[u8]; 14] = [
+const ACCEPTED: &[&[u8]] = &[
     b"typedef enum { A, B } e; class P; e x = B; e d []; endclass module m; e v = A; int n; initial begin P p = new; p.x = v; v = p.x; p.d = '{A, v, p.x}; p.d[n] = B; n = v + 1; end endmodule",
     b"class B; bit a; constraint c { } endclass class D extends B; bit c; constraint a { } endclass module m; initial begin end endmodule",
     b"class C; rand bit d [2], m [2][2], a; bit [2:2] b; constraint c { d.size == 2; foreach (d[i]) d[i] == 0; foreach (m[i, j]) m[i][j] == a; a inside {d, m}; unique {d}; disable soft m; d.sum() with (item) == 0; m.sum == 0; } endclass module m; initial begin end endmodule",
@@ -270,28 +270,28 @@ const ACCEPTED: [&[u8]; 14] = [
 #[test]
 fn an_enum_takes_only_its_members_and_variables(rt: HostRuntime) {
     for (text, column) in ENUM_VALUES {
-        assert!(rt; is_refused(rt.alloc(), text, 23, 1, column));
+        assert!(rt; is_refused(rt.alloc(), text, 23, 1, *column));
     }
 }
 
 #[test]
 fn what_is_left_out_is_refused(rt: HostRuntime) {
     for (text, column) in LEFT_OUT {
-        assert!(rt; is_refused(rt.alloc(), text, 24, 1, column));
+        assert!(rt; is_refused(rt.alloc(), text, 24, 1, *column));
     }
 }
 
 #[test]
 fn elements_and_statements_over_the_limit_are_refused(rt: HostRuntime) {
     for (text, column) in TOO_MANY {
-        assert!(rt; is_refused(rt.alloc(), text, 25, 1, column));
+        assert!(rt; is_refused(rt.alloc(), text, 25, 1, *column));
     }
 }
 
 #[test]
 fn a_variable_without_an_object_is_refused(rt: HostRuntime) {
     for (text, column) in WITHOUT_OBJECT {
-        assert!(rt; is_refused(rt.alloc(), text, 26, 1, column));
+        assert!(rt; is_refused(rt.alloc(), text, 26, 1, *column));
     }
 }
 

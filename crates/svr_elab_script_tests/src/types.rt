@@ -5,7 +5,7 @@ use crate::saying::{is_accepted, is_refused};
 // Each text is one line. Behind it stands the column of the place where it is refused, before that the number where a table has two.
 
 // 9: a type, a concatenation or a replication of over 64 bits: its first token
-const WIDE: [(&[u8], u32); 12] = [
+const WIDE: &[(&[u8], u32)] = &[
     (
         b"typedef bit [64:0] t; module m; initial begin end endmodule",
         9,
@@ -54,7 +54,7 @@ const WIDE: [(&[u8], u32); 12] = [
 ];
 
 // 10: no constant where one is to be: the first token of the expression
-const NOT_CONSTANT: [(&[u8], u32); 12] = [
+const NOT_CONSTANT: &[(&[u8], u32)] = &[
     (
         b"typedef bit [1 + z:0] t; module m; initial begin end endmodule",
         14,
@@ -106,7 +106,7 @@ const NOT_CONSTANT: [(&[u8], u32); 12] = [
 ];
 
 // 11: a dimension, a bound, a count or a pattern outside its range: its first token
-const RANGES: [(&[u8], u32); 20] = [
+const RANGES: &[(&[u8], u32)] = &[
     (
         b"typedef bit [-1:-2] t; module m; initial begin end endmodule",
         14,
@@ -190,7 +190,7 @@ const RANGES: [(&[u8], u32); 20] = [
 ];
 
 // 12: a member whose value its base lacks or an earlier member has: the member
-const ENUMS: [(&[u8], u32); 12] = [
+const ENUMS: &[(&[u8], u32)] = &[
     (
         b"typedef enum bit [1:0] { A, B = 3, C } e; module m; initial begin end endmodule",
         36,
@@ -242,7 +242,7 @@ const ENUMS: [(&[u8], u32); 12] = [
 ];
 
 // 13: a cyclic property of over 8 bits: its name
-const CYCLIC: [(&[u8], u32); 5] = [
+const CYCLIC: &[(&[u8], u32)] = &[
     (
         b"class C; randc bit [8:0] a; endclass module m; initial begin end endmodule",
         26,
@@ -266,7 +266,7 @@ const CYCLIC: [(&[u8], u32); 5] = [
 ];
 
 // texts beside these that have a design
-const ACCEPTED: [&[u8]; 8] = [
+const ACCEPTED: &[&[u8]] = &[
     b"typedef bit [63:0] t; typedef bit [70:7] u; class C; t a; u b; bit e; constraint c { {64{e}} == {a[62:0], e}; } endclass module m; initial begin end endmodule",
     b"typedef enum { A = 3, B = {1'b1, 1'b0} + A } e; typedef bit [$unsigned(A):(1 inside {[0:$]}) - 1] t; class C; t a = !A; bit d [A * 2]; endclass module m; initial begin repeat (A + B) ; end endmodule",
     b"typedef bit [64'h7fff_ffff_ffff_ffff:64'h7fff_ffff_ffff_ffff] t; module m; initial begin end endmodule",
@@ -280,35 +280,35 @@ const ACCEPTED: [&[u8]; 8] = [
 #[test]
 fn a_whole_of_more_than_64_bits_is_refused(rt: HostRuntime) {
     for (text, column) in WIDE {
-        assert!(rt; is_refused(rt.alloc(), text, 9, 1, column));
+        assert!(rt; is_refused(rt.alloc(), text, 9, 1, *column));
     }
 }
 
 #[test]
 fn what_is_no_constant_is_refused(rt: HostRuntime) {
     for (text, column) in NOT_CONSTANT {
-        assert!(rt; is_refused(rt.alloc(), text, 10, 1, column));
+        assert!(rt; is_refused(rt.alloc(), text, 10, 1, *column));
     }
 }
 
 #[test]
 fn a_bound_or_a_count_outside_its_range_is_refused(rt: HostRuntime) {
     for (text, column) in RANGES {
-        assert!(rt; is_refused(rt.alloc(), text, 11, 1, column));
+        assert!(rt; is_refused(rt.alloc(), text, 11, 1, *column));
     }
 }
 
 #[test]
 fn a_member_outside_its_type_or_with_an_earlier_value_is_refused(rt: HostRuntime) {
     for (text, column) in ENUMS {
-        assert!(rt; is_refused(rt.alloc(), text, 12, 1, column));
+        assert!(rt; is_refused(rt.alloc(), text, 12, 1, *column));
     }
 }
 
 #[test]
 fn a_cyclic_property_of_more_than_eight_bits_is_refused(rt: HostRuntime) {
     for (text, column) in CYCLIC {
-        assert!(rt; is_refused(rt.alloc(), text, 13, 1, column));
+        assert!(rt; is_refused(rt.alloc(), text, 13, 1, *column));
     }
 }
 

@@ -2,14 +2,13 @@
 
 ghost use Rattle.std.specs.Prelude.{◌≡◌, IfOk, [], ◌∷◌};
 ghost use Rattle.svr_typed.specs.ItemTerm.{item_term};
-ghost use Rattle.svr_typed.specs.ClassTerm.{flat_term};
+ghost use Rattle.svr_typed.specs.ClassTerm.{block_term, flat_term};
 ghost use Rattle.svr_typed.specs.StmtTerm.{call_term};
 ghost use Rattle.svr_world.specs.World.{declared_classes};
-ghost use Rattle.svr_frame_of_tests.specs.Sample.{sample_prop, sample_class, sample_world, sample_call, size_is_two};
+ghost use Rattle.svr_frame_of_tests.specs.Sample.{sample_prop, sample_block, sample_class, sample_world, sample_call, size_is_two};
 
 use sqlite_items::Items;
 use std::alloc::Global;
-use std::test::Fail;
 use svr_frame::Frame;
 use svr_frame_of::make_frame;
 use svr_operator::{BinOp, Rand};
@@ -47,19 +46,33 @@ fn size_item(alloc: Global) -> Result<TItem, NoMemory>
     Ok(TItem::plain(false, TExpr::new(1, false, equal), None))
 }
 
+/// A list of one.
+fn alone<T: Drop>(alloc: Global, item: T) -> Result<Items<T>, NoMemory>
+    ensures { IfOk result (λ items. items ≡ item ∷ []) }
+{
+    let mut items = Items::new(alloc);
+    items.push(item)?;
+    Ok(items)
+}
+
+fn block(alloc: Global) -> Result<TBlock, NoMemory>
+    ensures { IfOk result (λ b. block_term b ≡ sample_block) }
+{
+    let items = alone(alloc, size_item(alloc)?)?;
+    Ok(TBlock {
+        name: Text::from_vec(Vec::new(alloc)),
+        items,
+    })
+}
+
 fn class(alloc: Global) -> Result<FlatClass, NoMemory>
     ensures { IfOk result (λ c. flat_term c ≡ sample_class) }
 {
-    let mut props = Items::<Prop>::new(alloc);
-    props.push(queue(alloc))?;
-    let mut items = Items::<TItem>::new(alloc);
-    items.push(size_item(alloc)?)?;
-    let mut blocks = Items::<TBlock>::new(alloc);
-    blocks.push(TBlock {
-        name: Text::from_vec(Vec::new(alloc)),
-        items,
-    })?;
-    Ok(FlatClass { props, blocks })
+    let blocks = alone(alloc, block(alloc)?)?;
+    match alone(alloc, queue(alloc)) {
+        Ok(props) => Ok(FlatClass { props, blocks }),
+        Err(fault) => Err(fault),
+    }
 }
 
 /// One variable for objects of the class 0.
@@ -67,11 +80,11 @@ fn design(alloc: Global) -> Result<Design, NoMemory>
     ensures enums { IfOk result (λ d. d.enums ≡ []) }
     ensures vars { IfOk result (λ d. declared_classes d.vars ≡ 0 ∷ []) }
 {
-    let mut vars = Items::<TVar>::new(alloc);
-    vars.push(TVar {
+    let object = TVar {
         name: Text::from_vec(Vec::new(alloc)),
         kind: VarKind::Object(0),
-    })?;
+    };
+    let vars = alone(alloc, object)?;
     Ok(Design {
         enums: Items::<EnumType>::new(alloc),
         classes: Items::<TClass>::new(alloc),
@@ -97,35 +110,90 @@ fn call(alloc: Global) -> CallStmt
     CallStmt::new(0, CallList::All, Items::<TItem>::new(alloc), None)
 }
 
-fn asked(
-    alloc: Global,
-    design: &Design,
-    class: &FlatClass,
-    world: &World,
-    call: &CallStmt,
-) -> Result<Frame, NoMemory>
+/// Lets go what was held, in the place of a function that knows what it is.
+fn let_go<T: Drop>(_held: T) {}
+
+/// What can be looked at.
+trait Looked {
+    /// Whether the queue is empty and random, and its item makes its size one to choose.
+    fn has_its_size_to_choose(&self) -> bool;
+}
+
+impl Looked for Frame {
+    fn has_its_size_to_choose(&self) -> bool {
+        self.is_random(0)
+            && self.has_free_size(0)
+            && self.state.size(0) == 0
+            && self.items.len() == 1
+    }
+}
+
+/// Whether a frame was made, and is so. It is let go here, whatever it is, so that no other function has to.
+fn is_so<T: Looked + Drop>(made: Result<T, NoMemory>) -> bool {
+    match &made {
+        Ok(frame) => frame.has_its_size_to_choose(),
+        Err(_) => false,
+    }
+}
+
+fn asked(alloc: Global, design: &Design, class: &FlatClass, world: &World, call: &CallStmt) -> bool
     requires enums { design.now.enums ≡ [] }
     requires class { flat_term class.now ≡ sample_class }
     requires world { world.now ≡ sample_world }
     requires call { call_term call.now ≡ sample_call }
 {
-    make_frame(alloc, design, class, world, call)
+    is_so(make_frame(alloc, design, class, world, call))
 }
 
-fn sample(alloc: Global) -> Result<Frame, NoMemory> {
-    let design = design(alloc)?;
-    let class = class(alloc)?;
-    let world = world(alloc, &design, &class)?;
-    asked(alloc, &design, &class, &world, &call(alloc))
+fn in_world(alloc: Global, design: &Design, class: &FlatClass, world: &World) -> bool
+    requires enums { design.now.enums ≡ [] }
+    requires class { flat_term class.now ≡ sample_class }
+    requires world { world.now ≡ sample_world }
+{
+    let on_object = call(alloc);
+    let met = asked(alloc, design, class, world, &on_object);
+    let_go(on_object);
+    met
 }
 
-// The queue is empty and random, and its item makes its size one to choose.
+fn with_class(alloc: Global, design: &Design, class: &FlatClass) -> bool
+    requires enums { design.now.enums ≡ [] }
+    requires vars { declared_classes design.now.vars ≡ 0 ∷ [] }
+    requires class { flat_term class.now ≡ sample_class }
+{
+    let made = world(alloc, design, class);
+    let met = match &made {
+        Ok(there) => in_world(alloc, design, class, there),
+        Err(_) => false,
+    };
+    let_go(made);
+    met
+}
+
+fn in_design(alloc: Global, design: &Design) -> bool
+    requires enums { design.now.enums ≡ [] }
+    requires vars { declared_classes design.now.vars ≡ 0 ∷ [] }
+{
+    let made = class(alloc);
+    let met = match &made {
+        Ok(flat) => with_class(alloc, design, flat),
+        Err(_) => false,
+    };
+    let_go(made);
+    met
+}
+
+fn sample(alloc: Global) -> bool {
+    let made = design(alloc);
+    let met = match &made {
+        Ok(whole) => in_design(alloc, whole),
+        Err(_) => false,
+    };
+    let_go(made);
+    met
+}
+
 #[test]
-fn a_call_has_its_frame(rt: HostRuntime) -> Result<(), Fail> {
-    let frame = sample(rt.alloc())?;
-    assert!(rt; frame.is_random(0));
-    assert!(rt; frame.has_free_size(0));
-    assert_eq!(rt; frame.state.size(0), 0);
-    assert_eq!(rt; frame.items.len(), 1);
-    Ok(())
+fn a_call_has_its_frame(rt: HostRuntime) {
+    assert!(rt; sample(rt.alloc()));
 }

@@ -26,12 +26,10 @@ impl Wanted {
     fn packed(self, range: &Option<PackedRange>) -> Wanted {
         match range {
             Some(range) => {
-                let begun = self.then(b" [").token(range.at).then(b" ");
+                let begun = self.then_token(b" [", range.at).then(b" ");
                 begun
-                    .expr(&range.msb)
-                    .then(b":")
-                    .expr(&range.lsb)
-                    .then(b"]")
+                    .expr_then(&range.msb, b":")
+                    .expr_then(&range.lsb, b"]")
             }
             None => self,
         }
@@ -76,13 +74,13 @@ impl Wanted {
     fn data_type(self, found: &DataType) -> Wanted {
         match found {
             DataType::Integer(found) => self.integer(found),
-            DataType::Named(name) => self.then(b"named ").token(*name),
+            DataType::Named(name) => self.then_token(b"named ", *name),
         }
     }
 
     fn value(self, value: &Option<Expr>) -> Wanted {
         match value {
-            Some(value) => self.then(b"=").expr(value),
+            Some(value) => self.then_expr(b"=", value),
             None => self,
         }
     }
@@ -94,7 +92,7 @@ impl Wanted {
     fn start(self, init: &Option<VarInit>) -> Wanted {
         match init {
             None => self,
-            Some(VarInit::Value(value)) => self.then(b"=").expr(value),
+            Some(VarInit::Value(value)) => self.then_expr(b"=", value),
             Some(VarInit::New { parens: true }) => self.then(b"=new()"),
             Some(VarInit::New { parens: false }) => self.then(b"=new"),
         }
@@ -103,7 +101,7 @@ impl Wanted {
     fn variables(self, found: &[VarDeclarator]) -> Wanted {
         let mut wanted = self;
         for one in found {
-            wanted = wanted.then(b" ").token(one.name).start(&one.init);
+            wanted = wanted.then_token(b" ", one.name).start(&one.init);
         }
         wanted
     }
@@ -112,7 +110,7 @@ impl Wanted {
 impl Told for VarDecl {
     fn told(&self, wanted: Wanted, height: usize, _left: usize) -> Wanted {
         let declared = wanted.data_type(&self.kind).variables(self.vars.as_slice());
-        declared.then(b" high ").number(height)
+        declared.then_number(b" high ", height)
     }
 }
 
@@ -130,7 +128,7 @@ fn is_var_on(alloc: Global, text: &[u8], name: u32, wanted: &'static [u8]) -> bo
     is_told(found, cursor.left(), wanted)
 }
 
-const VARIABLES: [(&[u8], usize, &[u8]); 15] = [
+const VARIABLES: &[(&[u8], usize, &[u8])] = &[
     (b"bit n;", 2, b"0 bit 1 high 0"),
     (b"bit [n:1] n;", 2, b"0 bit [1 2:#4] 6 high 1"),
     (b"logic signed n;", 2, b"0 logic signed 2 high 0"),
@@ -155,7 +153,7 @@ const VARIABLES: [(&[u8], usize, &[u8]); 15] = [
 #[test]
 fn variables(rt: HostRuntime) {
     for (text, room, wanted) in VARIABLES {
-        assert!(rt; is_var(rt.alloc(), text, room, wanted));
+        assert!(rt; is_var(rt.alloc(), text, *room, wanted));
     }
     assert!(rt; is_var_on(rt.alloc(), b"a = new();", 7, b"named 7 0=new() high 0"));
 }
@@ -170,7 +168,7 @@ impl Wanted {
             None => begun.then(b" {"),
         };
         for member in found.members.as_slice() {
-            wanted = wanted.then(b" ").token(member.name).value(&member.value);
+            wanted = wanted.then_token(b" ", member.name).value(&member.value);
         }
         wanted.then(b" }")
     }
@@ -182,7 +180,7 @@ impl Told for TypeDecl {
             TypeDefinition::Integer(plain) => wanted.integer(plain),
             TypeDefinition::Enum(list) => wanted.enumeration(list),
         };
-        defined.then(b" ").token(self.name)
+        defined.then_token(b" ", self.name)
     }
 }
 
@@ -193,7 +191,7 @@ fn is_typedef(alloc: Global, text: &[u8], wanted: &'static [u8]) -> bool {
     is_told(found, cursor.left(), wanted)
 }
 
-const TYPEDEFS: [(&[u8], &[u8]); 5] = [
+const TYPEDEFS: &[(&[u8], &[u8])] = &[
     (b"typedef enum { a, b = 1 } c;", b"enum  { 3 5=#7 } 9"),
     (
         b"typedef enum bit [1:1] { a } c;",
@@ -218,15 +216,15 @@ impl Wanted {
         match dim {
             Dimension::Dynamic => self.then(b"[]"),
             Dimension::Queue => self.then(b"[$]"),
-            Dimension::Size(size) => self.then(b"[").expr(size).then(b"]"),
+            Dimension::Size(size) => self.then_expr(b"[", size).then(b"]"),
             Dimension::Bounds(first, last) => {
-                self.then(b"[").expr(first).then(b":").expr(last).then(b"]")
+                self.then_expr(b"[", first).then_expr(b":", last).then(b"]")
             }
         }
     }
 
     fn declarator(self, found: &Declarator) -> Wanted {
-        let mut wanted = self.then(b" ").token(found.name);
+        let mut wanted = self.then_token(b" ", found.name);
         for dim in found.dims.as_slice() {
             wanted = wanted.dimension(dim);
         }
@@ -251,10 +249,10 @@ impl Wanted {
 
     // its name, how many items it has, and the expression of the first one
     fn block(self, found: &ConstraintBlock) -> Wanted {
-        let named = self.then(b" constraint ").token(found.name).then(b" {");
-        let counted = named.number(found.items.len()).then(b": ");
+        let named = self.then_token(b" constraint ", found.name).then(b" {");
+        let counted = named.number_then(found.items.len(), b": ");
         match found.items.get(0) {
-            Some(Item::Plain { expr, .. }) => counted.expr(expr).then(b"}"),
+            Some(Item::Plain { expr, .. }) => counted.expr_then(expr, b"}"),
             _ => counted.then(b"}"),
         }
     }
@@ -272,7 +270,7 @@ impl Wanted {
 
     fn name(self, word: &[u8], name: Option<u32>) -> Wanted {
         match name {
-            Some(name) => self.then(word).token(name),
+            Some(name) => self.then_token(word, name),
             None => self,
         }
     }
@@ -287,7 +285,7 @@ impl Told for ClassDecl {
         let ended = begun
             .class_items(self.items.as_slice())
             .name(b" : ", self.label);
-        ended.then(b" high ").number(height)
+        ended.then_number(b" high ", height)
     }
 }
 
@@ -298,7 +296,7 @@ fn is_class(alloc: Global, text: &[u8], wanted: &'static [u8]) -> bool {
     is_told(found, cursor.left(), wanted)
 }
 
-const CLASSES: [(&[u8], &[u8]); 13] = [
+const CLASSES: &[(&[u8], &[u8])] = &[
     (
         b"class p; rand bit a []; randc byte b [$]; int c [1], d [1:e] = 1; endclass",
         b"1; rand 4 bit 5[]; randc 10 byte 11[$]; state 16 int 17[#19] 22[#24:26]=#29; high 1",

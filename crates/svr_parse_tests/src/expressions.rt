@@ -11,7 +11,7 @@ use svr_tree::{Expr, IteratorArgument, level};
 type Row = (&'static [u8], usize, &'static [u8]);
 
 // a text, room, and the tree with its height and the number of tokens left, or the fault
-const OPERATORS: [Row; 13] = [
+const OPERATORS: &[Row] = &[
     (b"n - n - n", 3, b"0op 0op 4, high 3, left 0"),
     (b"n - n - n", 2, b"deep 2"),
     (b"n - n * n", 3, b"0op 0 2op, high 3, left 0"),
@@ -28,7 +28,7 @@ const OPERATORS: [Row; 13] = [
 ];
 
 // the same of reductions
-const REDUCTIONS: [Row; 14] = [
+const REDUCTIONS: &[Row] = &[
     (b"n.sum with (n)", 2, b"0 sum of 0: 5, high 2, left 0"),
     (b"n.sum with (n)", 1, b"deep 4"),
     (
@@ -54,7 +54,7 @@ const REDUCTIONS: [Row; 14] = [
 ];
 
 // parts that are read by themselves
-const BEHIND_PATHS: [Row; 3] = [
+const BEHIND_PATHS: &[Row] = &[
     (b"n[n] + n", 3, b"0op other 5, high 3, left 0"),
     (b"n.sum with (n) + n", 3, b"0op other 8, high 3, left 0"),
     (b"n.n()", 9, b"0.2(), high 1, left 0"),
@@ -76,7 +76,7 @@ impl Wanted {
         match item {
             IteratorArgument::Absent => self,
             IteratorArgument::Empty => self.then(b"()"),
-            IteratorArgument::Named(name) => self.then(b"(").token(name).then(b")"),
+            IteratorArgument::Named(name) => self.then_token(b"(", name).then(b")"),
         }
     }
 }
@@ -94,16 +94,12 @@ impl Wanted {
             } => {
                 let named = self.token(*at).fold(*op).argument(*item);
                 named
-                    .then(b" of ")
-                    .expr(array.get())
-                    .then(b": ")
-                    .expr(body.get())
+                    .then_expr(b" of ", array.get())
+                    .then_expr(b": ", body.get())
             }
             Expr::Binary { left, right, .. } => {
-                self.expr(found)
-                    .then(b" ")
-                    .expr(left.get())
-                    .then(b" ")
+                self.expr_then(found, b" ")
+                    .expr_then(left.get(), b" ")
                     .expr(right.get())
             }
             _ => self.expr(found),
@@ -113,8 +109,8 @@ impl Wanted {
 
 impl Told for Expr {
     fn told(&self, wanted: Wanted, height: usize, left: usize) -> Wanted {
-        let high = wanted.operation(self).then(b", high ").number(height);
-        high.then(b", left ").number(left)
+        let high = wanted.operation(self).then_number(b", high ", height);
+        high.then_number(b", left ", left)
     }
 }
 
@@ -128,10 +124,10 @@ fn is_read(alloc: Global, text: &[u8], room: usize, wanted: &'static [u8]) -> bo
 #[test]
 fn expressions(rt: HostRuntime) {
     for (text, room, wanted) in OPERATORS {
-        assert!(rt; is_read(rt.alloc(), text, room, wanted));
+        assert!(rt; is_read(rt.alloc(), text, *room, wanted));
     }
     for (text, room, wanted) in REDUCTIONS {
-        assert!(rt; is_read(rt.alloc(), text, room, wanted));
+        assert!(rt; is_read(rt.alloc(), text, *room, wanted));
     }
 }
 
@@ -152,7 +148,7 @@ fn is_read_in_two(alloc: Global, text: &[u8], room: usize, wanted: &'static [u8]
 #[test]
 fn behind_a_path(rt: HostRuntime) {
     for (text, room, wanted) in BEHIND_PATHS {
-        assert!(rt; is_read_in_two(rt.alloc(), text, room, wanted));
+        assert!(rt; is_read_in_two(rt.alloc(), text, *room, wanted));
     }
 }
 

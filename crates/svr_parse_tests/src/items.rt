@@ -12,7 +12,7 @@ use svr_tree::{Dist, Expr, Item, Set};
 type Row = (&'static [u8], usize, &'static [u8]);
 
 // what stands behind the opening brace of a block, room, and the height with the number of tokens left, or the fault
-const BLOCKS: [Row; 14] = [
+const BLOCKS: &[Row] = &[
     (b"}", 0, b"high 0, left 0"),
     (b"", 9, b"unexpected 0"),
     (b"; }", 0, b"unexpected 2"),
@@ -30,7 +30,7 @@ const BLOCKS: [Row; 14] = [
 ];
 
 // the same of a set: items that begin with an expression
-const STATED: [Row; 15] = [
+const STATED: &[Row] = &[
     (b"solve n before n", 9, b"unexpected 4"),
     (b"n -> { } }", 2, b"high 2, left 0"),
     (b"n -> n; }", 3, b"high 3, left 0"),
@@ -49,7 +49,7 @@ const STATED: [Row; 15] = [
 ];
 
 // and those that a word leads
-const LED: [Row; 16] = [
+const LED: &[Row] = &[
     (b"if (n) if (n) n; else n; }", 4, b"high 4, left 0"),
     (b"if (n) if (n) n; }", 3, b"deep 3"),
     (b"if (n) n; else { } else }", 9, b"unexpected 2"),
@@ -72,10 +72,8 @@ const LED: [Row; 16] = [
 impl Told for Items<Item> {
     fn told(&self, wanted: Wanted, height: usize, left: usize) -> Wanted {
         wanted
-            .then(b"high ")
-            .number(height)
-            .then(b", left ")
-            .number(left)
+            .then_number(b"high ", height)
+            .then_number(b", left ", left)
     }
 }
 
@@ -96,17 +94,17 @@ fn is_set(alloc: Global, text: &[u8], room: usize, wanted: &'static [u8]) -> boo
 #[test]
 fn items_of_blocks(rt: HostRuntime) {
     for (text, room, wanted) in BLOCKS {
-        assert!(rt; is_block(rt.alloc(), text, room, wanted));
+        assert!(rt; is_block(rt.alloc(), text, *room, wanted));
     }
 }
 
 #[test]
 fn items_of_sets(rt: HostRuntime) {
     for (text, room, wanted) in STATED {
-        assert!(rt; is_set(rt.alloc(), text, room, wanted));
+        assert!(rt; is_set(rt.alloc(), text, *room, wanted));
     }
     for (text, room, wanted) in LED {
-        assert!(rt; is_set(rt.alloc(), text, room, wanted));
+        assert!(rt; is_set(rt.alloc(), text, *room, wanted));
     }
 }
 
@@ -134,7 +132,7 @@ fn body(item: &Item) -> Option<&Set> {
 impl Wanted {
     fn dist(self, dist: &Option<Dist>) -> Wanted {
         let Some(dist) = dist else { return self };
-        let mut wanted = self.then(b" dist ").token(dist.at);
+        let mut wanted = self.then_token(b" dist ", dist.at);
         for member in dist.items.as_slice() {
             wanted = match &member.weight {
                 Some((Share::Each, _)) => wanted.then(b" :="),
@@ -166,7 +164,7 @@ impl Wanted {
                     expr,
                     dist,
                 },
-            ) => begun.token(*at).then(b": ").plain(*soft, expr, dist),
+            ) => begun.token_then(*at, b": ").plain(*soft, expr, dist),
             _ => begun,
         }
     }
@@ -180,11 +178,10 @@ impl Wanted {
                 dist,
                 ..
             } => self.plain(*soft, expr, dist),
-            Item::Unique { members, .. } => self.then(b"unique ").number(members.len()),
-            Item::Implies { test, body, .. } => self.expr(test).then(b" -> ").brace(body),
+            Item::Unique { members, .. } => self.then_number(b"unique ", members.len()),
+            Item::Implies { test, body, .. } => self.expr_then(test, b" -> ").brace(body),
             Item::Branch { test, yes, no, .. } => {
-                self.then(b"if ")
-                    .expr(test)
+                self.then_expr(b"if ", test)
                     .no(no)
                     .then(b" then ")
                     .brace(yes)
@@ -195,15 +192,13 @@ impl Wanted {
                 body,
                 ..
             } => {
-                let begun = self.then(b"foreach ").expr(array).then(b"[");
+                let begun = self.then_expr(b"foreach ", array).then(b"[");
                 begun.tokens(vars.as_slice(), b",").then(b"] ").brace(body)
             }
-            Item::Disable { target, .. } => self.then(b"disable ").expr(target),
+            Item::Disable { target, .. } => self.then_expr(b"disable ", target),
             Item::Solve { first, later, .. } => {
-                self.then(b"solve ")
-                    .number(first.len())
-                    .then(b" before ")
-                    .number(later.len())
+                self.then_number(b"solve ", first.len())
+                    .then_number(b" before ", later.len())
             }
         }
     }
@@ -229,7 +224,7 @@ impl Told for Item {
         let mut next = Some(self);
         for _level in 0..4 {
             if let Some(item) = next {
-                wanted = wanted.token(first_token(item)).then(b": ").kind(item);
+                wanted = wanted.token_then(first_token(item), b": ").kind(item);
                 next = body(item).and_then(single);
             }
         }
@@ -238,7 +233,7 @@ impl Told for Item {
 }
 
 // an item, and its tree: each expression by its first token
-const TREES: [(&[u8], &[u8]); 8] = [
+const TREES: &[(&[u8], &[u8])] = &[
     (
         b"if (n) if (n) n; else n;",
         b"0: if 2 then 4: if 6 else 11: 11 then 8: 8",

@@ -1,4 +1,4 @@
-//! The tests of the readers of expressions, items, declarations, statements and scripts: short texts, with the shapes of their trees, their heights and their faults.
+//! The tests of trees and of the readers of expressions, items, declarations, statements and scripts: short texts, with the shapes of their trees, their heights and their faults.
 //!
 //! They stand apart, so that the readers are proved once.
 #![tactic(auto)]
@@ -15,5 +15,7 @@ mod scripts;
 mod statements;
 #[cfg(test)]
 mod text;
+#[cfg(test)]
+mod trees;
 #[cfg(test)]
 mod wanted;

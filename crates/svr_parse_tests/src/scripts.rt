@@ -104,7 +104,7 @@ impl Wanted {
     fn stated(self, soft: bool, expr: &Expr, dist: &Option<Dist>) -> Wanted {
         let begun = if soft { self.then(b"soft ") } else { self };
         match dist {
-            Some(dist) => begun.then(b"dist ").number(dist.items.len()),
+            Some(dist) => begun.then_number(b"dist ", dist.items.len()),
             None => begun.hard(soft, expr),
         }
     }
@@ -118,22 +118,20 @@ impl Wanted {
                 dist,
                 ..
             } => self.stated(*soft, expr, dist),
-            Item::Unique { members, .. } => self.then(b"unique ").number(members.len()),
-            Item::Implies { body, .. } => self.then(b"implies ").number(body.items.len()),
+            Item::Unique { members, .. } => self.then_number(b"unique ", members.len()),
+            Item::Implies { body, .. } => self.then_number(b"implies ", body.items.len()),
             Item::Branch { yes, no, .. } => {
-                let begun = self.then(b"if ").number(yes.items.len());
+                let begun = self.then_number(b"if ", yes.items.len());
                 match no {
-                    Some(no) => begun.then(b" else ").number(no.items.len()),
+                    Some(no) => begun.then_number(b" else ", no.items.len()),
                     None => begun,
                 }
             }
-            Item::Foreach { body, .. } => self.then(b"foreach ").number(body.items.len()),
+            Item::Foreach { body, .. } => self.then_number(b"foreach ", body.items.len()),
             Item::Disable { .. } => self.then(b"disable"),
             Item::Solve { first, later, .. } => {
-                self.then(b"solve ")
-                    .number(first.len())
-                    .then(b" before ")
-                    .number(later.len())
+                self.then_number(b"solve ", first.len())
+                    .then_number(b" before ", later.len())
             }
         }
     }
@@ -153,7 +151,7 @@ impl Wanted {
     }
 }
 
-const ITEMS: [(&[u8], &[u8]); 43] = [
+const ITEMS: &[(&[u8], &[u8])] = &[
     (b"a == 5;", b"plain"),
     (b"a < 3 && a > 5;", b"plain"),
     (b"!(a == 0) || a > 1;", b"plain"),
@@ -228,9 +226,9 @@ impl Wanted {
             RightSide::New { parens: true } => self.then(b"new()"),
             RightSide::New { parens: false } => self.then(b"new"),
             RightSide::NewArray(_) => self.then(b"new array"),
-            RightSide::Pattern { values, .. } => self.then(b"pattern ").number(values.len()),
+            RightSide::Pattern { values, .. } => self.then_number(b"pattern ", values.len()),
             RightSide::Call(found) => match &found.with {
-                Some(set) => self.then(b"answer ").number(set.len()),
+                Some(set) => self.then_number(b"answer ", set.len()),
                 None => self.then(b"answer "),
             },
         }
@@ -240,7 +238,7 @@ impl Wanted {
         match args {
             RandomizeArgs::Null => self.then(b"null"),
             RandomizeArgs::Empty => self.then(b"call 0"),
-            RandomizeArgs::Names(names) => self.then(b"call ").number(names.len()),
+            RandomizeArgs::Names(names) => self.then_number(b"call ", names.len()),
         }
     }
 
@@ -252,7 +250,7 @@ impl Wanted {
             CallForm::Assert => self.then(b"assert "),
         };
         match &call.with {
-            Some(set) => begun.then(b"with ").number(set.len()),
+            Some(set) => begun.then_number(b"with ", set.len()),
             None => begun.arg_count(&call.args),
         }
     }
@@ -261,7 +259,7 @@ impl Wanted {
     fn stmt_kind(self, stmt: &Stmt) -> Wanted {
         match stmt {
             Stmt::Empty { .. } => self.then(b"empty"),
-            Stmt::Block { stmts, .. } => self.then(b"block ").number(stmts.len()),
+            Stmt::Block { stmts, .. } => self.then_number(b"block ", stmts.len()),
             Stmt::Repeat { .. } => self.then(b"repeat"),
             Stmt::Assign { value, .. } => self.right_kind(value),
             Stmt::Call { form, call, .. } => self.call_kind(*form, call),
@@ -274,8 +272,8 @@ impl Wanted {
 
     // how many variables stand before and in the initial block, and its only statement
     fn only_stmt(self, unit: &UnitDecl) -> Wanted {
-        let outer = self.number(unit.outer.len()).then(b" ");
-        let inner = outer.number(unit.inner.len()).then(b" ");
+        let outer = self.number_then(unit.outer.len(), b" ");
+        let inner = outer.number_then(unit.inner.len(), b" ");
         match unit.stmts.as_slice() {
             [stmt] => inner.stmt_kind(stmt),
             _ => inner.then(b"not one statement"),
@@ -283,7 +281,7 @@ impl Wanted {
     }
 }
 
-const STMTS: [(&[u8], &[u8]); 24] = [
+const STMTS: &[(&[u8], &[u8])] = &[
     (b";", b"1 2 empty"),
     (b"begin p.a = 1; ; end", b"1 2 block 2"),
     (b"repeat (54) p.randomize();", b"1 2 repeat"),
@@ -404,11 +402,9 @@ impl Wanted {
         };
         let outer = begun
             .told_if(unit.parens, b"() ")
-            .number(unit.outer.len())
-            .then(b" ");
+            .number_then(unit.outer.len(), b" ");
         let inner = outer
-            .number(unit.inner.len())
-            .then(b" ")
+            .number_then(unit.inner.len(), b" ")
             .number(unit.stmts.len());
         let labelled = inner.told_if(unit.label.is_some(), b" labelled ");
         match unit.inner.get(0) {
@@ -476,7 +472,7 @@ fn fronts(rt: HostRuntime) {
     assert!(rt; fault(rt.alloc(), PACKET) == None);
 }
 
-const FAULTS: [(&[u8], u32); 21] = [
+const FAULTS: &[(&[u8], u32)] = &[
     (b"", 0),
     (b"class P;\n", 3),
     (
@@ -524,7 +520,7 @@ const FAULTS: [(&[u8], u32); 21] = [
 #[test]
 fn faults(rt: HostRuntime) {
     for (text, token) in FAULTS {
-        assert!(rt; fault(rt.alloc(), text) == Some(ParseError::Unexpected { token }));
+        assert!(rt; fault(rt.alloc(), text) == Some(ParseError::Unexpected { token: *token }));
     }
 }
 

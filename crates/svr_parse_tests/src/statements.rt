@@ -18,7 +18,7 @@ impl Wanted {
             RandomizeArgs::Names(names) => {
                 let mut wanted = self;
                 for name in names.as_slice() {
-                    wanted = wanted.then(b" ").token(*name);
+                    wanted = wanted.then_token(b" ", *name);
                 }
                 wanted
             }
@@ -28,12 +28,11 @@ impl Wanted {
     // its path, its arguments, and how many items its set has
     fn call(self, found: &RandomizeCall) -> Wanted {
         let told = self
-            .expr(&found.path)
-            .then(b".randomize(")
+            .expr_then(&found.path, b".randomize(")
             .args(&found.args)
             .then(b")");
         match &found.with {
-            Some(items) => told.then(b" with ").number(items.len()),
+            Some(items) => told.then_number(b" with ", items.len()),
             None => told,
         }
     }
@@ -41,7 +40,7 @@ impl Wanted {
     fn values(self, values: &[Expr]) -> Wanted {
         let mut wanted = self;
         for value in values {
-            wanted = wanted.then(b" ").expr(value);
+            wanted = wanted.then_expr(b" ", value);
         }
         wanted
     }
@@ -51,10 +50,9 @@ impl Wanted {
             RightSide::Value(value) => self.expr(value),
             RightSide::New { parens: true } => self.then(b"new()"),
             RightSide::New { parens: false } => self.then(b"new"),
-            RightSide::NewArray(count) => self.then(b"new[").expr(count).then(b"]"),
+            RightSide::NewArray(count) => self.then_expr(b"new[", count).then(b"]"),
             RightSide::Pattern { at, values } => {
-                self.token(*at)
-                    .then(b"'{")
+                self.token_then(*at, b"'{")
                     .values(values.as_slice())
                     .then(b"}")
             }
@@ -71,7 +69,7 @@ impl Wanted {
     }
 
     fn mode(self, mode: &ModeCall) -> Wanted {
-        let told = self.then(b": ").expr(&mode.path);
+        let told = self.then_expr(b": ", &mode.path);
         let named = match mode.kind {
             ModeKind::Rand => told.then(b".rand_mode "),
             ModeKind::Constraint => told.then(b".constraint_mode "),
@@ -82,7 +80,7 @@ impl Wanted {
     // the body of a loop, by its token alone
     fn body(self, stmt: &Stmt) -> Wanted {
         match stmt {
-            Stmt::Empty { at } => self.token(*at).then(b": ;"),
+            Stmt::Empty { at } => self.token_then(*at, b": ;"),
             _ => self.then(b"other"),
         }
     }
@@ -90,19 +88,15 @@ impl Wanted {
     fn stmt(self, stmt: &Stmt) -> Wanted {
         match stmt {
             Stmt::Empty { .. } => self.body(stmt),
-            Stmt::Block { at, stmts } => self.token(*at).then(b": block ").number(stmts.len()),
+            Stmt::Block { at, stmts } => self.token_then(*at, b": block ").number(stmts.len()),
             Stmt::Repeat { at, count, body } => {
-                self.token(*at)
-                    .then(b": repeat ")
-                    .expr(count)
-                    .then(b" ")
+                self.token_then(*at, b": repeat ")
+                    .expr_then(count, b" ")
                     .body(body.get())
             }
             Stmt::Assign { at, target, value } => {
-                self.token(*at)
-                    .then(b": ")
-                    .expr(target)
-                    .then(b" = ")
+                self.token_then(*at, b": ")
+                    .expr_then(target, b" = ")
                     .right(value)
             }
             Stmt::Call { at, form, call } => self.token(*at).form(*form).call(call),
@@ -114,9 +108,9 @@ impl Wanted {
 impl Told for Stmt {
     // the number of tokens left only if there are any
     fn told(&self, wanted: Wanted, height: usize, left: usize) -> Wanted {
-        let high = wanted.stmt(self).then(b" high ").number(height);
+        let high = wanted.stmt(self).then_number(b" high ", height);
         if left > 0 {
-            high.then(b" left ").number(left)
+            high.then_number(b" left ", left)
         } else {
             high
         }
@@ -145,7 +139,7 @@ fn is_read_on(alloc: Global, text: &[u8], room: usize, taken: bool, wanted: &'st
 }
 
 // statements that begin with a name
-const NAMED: [(&[u8], &[u8]); 14] = [
+const NAMED: &[(&[u8], &[u8])] = &[
     (b"n.n = n + 5;", b"0: 0.2 = 4op high 3"),
     (b"n = new;", b"0: 0 = new high 2"),
     (b"n = new();", b"0: 0 = new() high 2"),
@@ -176,7 +170,7 @@ fn statements_that_begin_with_a_name(rt: HostRuntime) {
     }
 }
 
-const STATEMENTS: [(&[u8], &[u8]); 6] = [
+const STATEMENTS: &[(&[u8], &[u8])] = &[
     (b"n.randomize();", b"0: call 0.randomize() high 2"),
     (
         b"void'(n.n.randomize(null));",
@@ -198,7 +192,7 @@ fn calls_blocks_and_loops(rt: HostRuntime) {
     }
 }
 
-const FAULTS: [(&[u8], usize, &[u8]); 14] = [
+const FAULTS: &[(&[u8], usize, &[u8])] = &[
     (b";", 0, b"deep 1"),
     (b"begin ; end", 1, b"deep 2"),
     (b"repeat (5) ;", 1, b"deep 5"),
@@ -218,7 +212,7 @@ const FAULTS: [(&[u8], usize, &[u8]); 14] = [
 #[test]
 fn faults_of_statements(rt: HostRuntime) {
     for (text, room, wanted) in FAULTS {
-        assert!(rt; is_read(rt.alloc(), text, room, wanted));
+        assert!(rt; is_read(rt.alloc(), text, *room, wanted));
     }
     // behind the first name, where there is room for a path alone
     assert!(rt; is_read_on(rt.alloc(), b"= (n);", 2, false, b"deep 4"));

@@ -42,6 +42,26 @@ impl Wanted {
         self.number(at as usize)
     }
 
+    /// Tells a word and the number of a token.
+    pub fn then_token(self, word: &[u8], at: u32) -> Wanted {
+        self.then(word).token(at)
+    }
+
+    /// Tells the number of a token and a word.
+    pub fn token_then(self, at: u32, word: &[u8]) -> Wanted {
+        self.token(at).then(word)
+    }
+
+    /// Tells a word and a number.
+    pub fn then_number(self, word: &[u8], number: usize) -> Wanted {
+        self.then(word).number(number)
+    }
+
+    /// Tells a number and a word.
+    pub fn number_then(self, number: usize, word: &[u8]) -> Wanted {
+        self.number(number).then(word)
+    }
+
     /// Tells numbers of tokens, with `mark` between them.
     pub fn tokens(self, tokens: &[u32], mark: &[u8]) -> Wanted {
         let mut wanted = self;
@@ -59,9 +79,9 @@ impl Wanted {
     fn path(self, at: u32, scope: Scope, names: &[u32], call: bool) -> Wanted {
         let begun = match scope {
             Scope::Plain if names.first() == Some(&at) => self,
-            Scope::Plain => self.then(b"at ").token(at),
-            Scope::Local => self.token(at).then(b"local::"),
-            Scope::This => self.token(at).then(b"this."),
+            Scope::Plain => self.then_token(b"at ", at),
+            Scope::Local => self.token_then(at, b"local::"),
+            Scope::This => self.token_then(at, b"this."),
         };
         let named = begun.tokens(names, b".");
         if call { named.then(b"()") } else { named }
@@ -85,17 +105,27 @@ impl Wanted {
                 names,
                 call,
             } => self.path(*at, *scope, names.as_slice(), *call),
-            Expr::Number { at, .. } => self.then(b"#").token(*at),
+            Expr::Number { at, .. } => self.then_token(b"#", *at),
             Expr::Binary { at, op, .. } => self.token(*at).operator(*op),
             _ => self.then(b"other"),
         }
     }
 
+    /// Tells a word and an expression.
+    pub fn then_expr(self, word: &[u8], expr: &Expr) -> Wanted {
+        self.then(word).expr(expr)
+    }
+
+    /// Tells an expression and a word.
+    pub fn expr_then(self, expr: &Expr, word: &[u8]) -> Wanted {
+        self.expr(expr).then(word)
+    }
+
     /// Tells a fault: `unexpected 2` or `deep 2`, with the number of tokens that are left.
     pub fn fault(self, fault: ReadFault) -> Wanted {
         match fault {
-            ReadFault::Unexpected(left) => self.then(b"unexpected ").number(left),
-            ReadFault::TooDeep(left) => self.then(b"deep ").number(left),
+            ReadFault::Unexpected(left) => self.then_number(b"unexpected ", left),
+            ReadFault::TooDeep(left) => self.then_number(b"deep ", left),
             ReadFault::NoMemory => self.then(b"no memory"),
         }
     }

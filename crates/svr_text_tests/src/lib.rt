@@ -1,4 +1,4 @@
-//! The tests of the layers of text: what bytes spell, tokens, trees, the steps of readers, places, and where bytes come from and go to.
+//! The tests of the layers of text: what bytes spell, tokens, the steps of readers, places, and where bytes come from and go to.
 //!
 //! They stand apart, so that the layers are proved once.
 #![tactic(auto)]
@@ -13,5 +13,3 @@ mod spellings;
 mod steps;
 #[cfg(test)]
 mod texts;
-#[cfg(test)]
-mod trees;

@@ -1,7 +1,7 @@
 // What bytes spell.
 use svr_token::{Lexeme, Mark, NameKind, SystemName, Word, lexeme_from};
 
-const SPELLED: [(&[u8], Lexeme); 36] = [
+const SPELLED: &[(&[u8], Lexeme)] = &[
     (b"randc", Lexeme::Word(Word::Randc)),
     (b"before", Lexeme::Word(Word::Before)),
     (b"sum", Lexeme::Name(NameKind::Sum)),
@@ -166,7 +166,7 @@ const SPELLED: [(&[u8], Lexeme); 36] = [
     (b"/", Lexeme::Mark(Mark::Slash)),
 ];
 
-const UNSPELLED: [&[u8]; 14] = [
+const UNSPELLED: &[&[u8]] = &[
     b"",
     b"a b",
     b"12a",
@@ -185,10 +185,10 @@ const UNSPELLED: [&[u8]; 14] = [
 
 #[test]
 fn lexemes(rt: HostRuntime) {
-    for (bytes, lexeme) in &SPELLED {
+    for (bytes, lexeme) in SPELLED {
         assert!(rt; lexeme_from(bytes) == Some(*lexeme), "at {bytes:?}");
     }
-    for bytes in &UNSPELLED {
+    for bytes in UNSPELLED {
         assert!(rt; lexeme_from(bytes) == None, "at {bytes:?}");
     }
 }

@@ -4,7 +4,7 @@ use svr_lex::{LexFault, lex};
 use svr_token::{Kind, Token};
 
 /// Texts with the marks of their tokens: a great letter for the kind of a token at its first byte, small ones at its others, and a blank at what is of no token.
-const TOKENS: [(&[u8], &[u8]); 46] = [
+const TOKENS: &[(&[u8], &[u8])] = &[
     (b"", b""),
     (b" \t\r\n\x0c", b"     "),
     (b"rand bit", b"Nnnn Nnn"),
@@ -53,7 +53,7 @@ const TOKENS: [(&[u8], &[u8]); 46] = [
     (b"// /*\na", b"      N"),
 ];
 
-const FAULTS: [(&[u8], LexFault); 40] = [
+const FAULTS: &[(&[u8], LexFault)] = &[
     (b"#", LexFault::BadByte { at: 0 }),
     (b"a #", LexFault::BadByte { at: 2 }),
     (b"a#b", LexFault::BadByte { at: 1 }),
@@ -156,14 +156,14 @@ fn has_tokens(alloc: Global, text: &[u8], marks: &[u8]) -> bool {
 
 #[test]
 fn tokens(rt: HostRuntime) {
-    for (text, marks) in &TOKENS {
+    for (text, marks) in TOKENS {
         assert!(rt; has_tokens(rt.alloc(), text, marks), "at {text:?}");
     }
 }
 
 #[test]
 fn faults(rt: HostRuntime) {
-    for (text, wanted) in &FAULTS {
+    for (text, wanted) in FAULTS {
         assert!(rt; text.len() <= 100);
         assert!(rt; lex(rt.alloc(), text).err() == Some(*wanted), "at {text:?}");
     }
