@@ -4,7 +4,7 @@ use Rattle.svr_operator.specs.declared.BinOp.{BinOp}
 use Rattle.svr_operator.specs.declared.BinOp.TheVariants as bin
 use Rattle.svr_operator.specs.declared.UnOp.{UnOp}
 use Rattle.svr_operator.specs.declared.Fold.{Fold}
-use Rattle.svr_typed.specs.ExprTerm.{ExprTerm, typed, number, prop, element, cell, size, script, loop_index, reduce, bit_select, part_select, unary, binary, choice, inside, join, copies, sign, exprs_of, one, span, ranges_of, value, dollar}
+use Rattle.svr_typed.specs.ExprTerm.{ExprTerm, RangeTerm, typed, number, prop, element, cell, size, script, loop_index, reduce, bit_select, part_select, unary, binary, choice, inside, join, copies, sign, exprs_of, one, span, ranges_of, value, dollar}
 use Rattle.svr_eval.specs.Operator.{binary_kind, unary_kind, binary_size, binary_sign, unary_size, unary_sign}
 use Rattle.svr_eval.specs.Reading.{reading_of}
 use Rattle.svr_eval.specs.Typed.{IsTyped, CanRead}
@@ -57,14 +57,22 @@ size_of_q = typed 32 true (size 5 1)
 abbrev pub bit_of_x : ExprTerm → ℤ → ExprTerm
 bit_of_x e low = is_z (typed 1 false (bit_select (scalar 0) e low))
 
+-- `{y, [-3:1], [z:$]}`
+abbrev pub set_of : Bool → List RangeTerm
+set_of s = one (operand s 1) ∷ span (value (int 4294967293)) (value (int 1)) ∷ span (value (operand s 2)) dollar ∷ []
+
+-- `{2{x}}`
+abbrev pub twice_x : ExprTerm
+twice_x = typed 8 false (copies (int 2) (exprs_of (scalar 0 ∷ [])))
+
 abbrev pub item_of : Form → ExprTerm
 item_of (form.Binary op s) = equal (applied op s) (operand s 2)
 item_of (form.Unary op s) = equal (applied_one op s) (operand s 2)
 item_of form.Choice = is_z (typed 4 false (choice (scalar 0) (scalar 1) (typed 4 false (number 5 false))))
-item_of (form.Inside s) = typed 1 false (inside (operand s 0) (ranges_of (one (operand s 1) ∷ span (value (int 4294967293)) (value (int 1)) ∷ span (value (operand s 2)) dollar ∷ [])))
+item_of (form.Inside s) = typed 1 false (inside (operand s 0) (ranges_of (set_of s)))
 item_of form.Array = typed 1 false (inside (scalar 0) (ranges_of (one (typed 2 false (prop 3)) ∷ [])))
 item_of form.Join = equal (difference (join_of 0 1) (join_of 1 2)) (byte 7)
-item_of form.Copies = equal (difference (typed 8 false (copies (int 2) (exprs_of (scalar 0 ∷ [])))) (join_of 1 2)) (byte 3)
+item_of form.Copies = equal (difference twice_x (join_of 1 2)) (byte 3)
 item_of form.Bit = bit_of_x (int 3) (pos 1)
 item_of form.Bits = is_z (typed 2 false (part_select (scalar 0) (int 2) (int 1) (pos 0)))
 item_of form.Every = is_z (typed 4 false (binary bin.BitwiseXor (scalar 0) (typed 1 false (number 1 true))))

@@ -1,10 +1,8 @@
 //! Clauses under 64 valuations at once, each of which has one bit of each word.
 
-ghost use Rattle.std.specs.Prelude.{◌≡◌};
-
-use std::alloc::{AllocError, Global};
+use crate::held::{added, let_go};
+use std::alloc::Global;
 use svr_chain::{Clause, Cnf, Lit};
-use svr_encoded::Encoded;
 
 /// What the clauses say of the first root.
 #[derive(Clone, Copy)]
@@ -54,44 +52,49 @@ fn top_of(clause: &Clause) -> Lit {
     top
 }
 
-/// The values of the variables, from 0, where those from 1 on begin with `bits`: another is true where a clause over lower ones needs it.
-fn values_of(alloc: Global, cnf: &Cnf, bits: &[u64]) -> Result<Vec<u64>, AllocError> {
-    let mut values = Vec::new(alloc);
-    values.push(0)?;
+/// The values of so many variables, from 0, of which those from 1 on begin with `bits`.
+fn begin(values: &mut Vec<u64>, vars: u64, bits: &[u64]) {
+    added(values, 0);
     for word in bits {
-        values.push(*word)?;
+        added(values, *word);
     }
-    for _ in bits.len() as u64..cnf.vars {
-        values.push(0)?;
+    for _ in bits.len() as u64..vars {
+        added(values, 0);
     }
+}
+
+/// Behind the first `count` variables one is true where a clause over lower ones needs it.
+fn settle(cnf: &Cnf, count: usize, values: &mut [u64]) {
     for clause in &cnf.clauses {
         let top = top_of(clause);
         let at = top.var as usize;
-        if !top.neg && at > bits.len() && at < values.len() {
-            values[at] |= !is_met(clause, top.var, &values);
+        if !top.neg && at > count && at < values.len() {
+            values[at] |= !is_met(clause, top.var, values);
         }
     }
-    Ok(values)
 }
 
-/// What the clauses say of the first root, where the first variables have the values of `bits`.
-pub(crate) fn root_value(alloc: Global, e: &Encoded, bits: &[u64]) -> Result<Told, AllocError> {
-    let mut values = values_of(alloc, &e.cnf, bits)?;
-    let Some(root) = e.roots.first() else {
-        return Ok(Told {
-            is_settled: 0,
-            is_true: 0,
-        });
-    };
-    let is_true = holds(*root, &values);
-    let can_be = are_met(&e.cnf, &values);
+/// What the clauses say of a root under values of the variables.
+fn told_of(cnf: &Cnf, root: Lit, values: &mut [u64]) -> Told {
+    let is_true = holds(root, values);
+    let can_be = are_met(cnf, values);
     let at = root.var as usize;
     if at < values.len() {
         values[at] = !values[at];
     }
-    let can_be_other = are_met(&e.cnf, &values);
-    Ok(Told {
+    let can_be_other = are_met(cnf, values);
+    Told {
         is_settled: can_be & !can_be_other,
         is_true,
-    })
+    }
+}
+
+/// What the clauses say of the root, where the first variables have the values of `bits`.
+pub(crate) fn root_value(alloc: Global, cnf: &Cnf, root: Lit, bits: &[u64]) -> Told {
+    let mut values = Vec::new(alloc);
+    begin(&mut values, cnf.vars, bits);
+    settle(cnf, bits.len(), &mut values);
+    let told = told_of(cnf, root, &mut values);
+    let_go(values);
+    told
 }

@@ -3,7 +3,7 @@
 use svr_operator::{BinOp, Fold, UnOp};
 
 /// An item over `x`, `y` and `z` of four bits each, arrays and sizes. Where `signed` is said, the operands are taken by `$signed`, else by `$unsigned`.
-#[derive(Clone, Copy, Debug)]
+#[derive(Clone, Copy)]
 pub enum Form {
     /// `(x op y) == z`
     Binary { op: BinOp, signed: bool },

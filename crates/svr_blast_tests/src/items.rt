@@ -1,12 +1,13 @@
 //! The items that are tried.
 
-ghost use Rattle.std.specs.Prelude.{◌≡◌, IfOk};
-ghost use Rattle.svr_typed.specs.ExprTerm.{expr_term};
+ghost use Rattle.std.specs.Prelude.{◌≡◌, IfOk, map};
+ghost use Rattle.svr_typed.specs.ExprTerm.{expr_term, range_term};
 ghost use Rattle.svr_eval.specs.Operator as kind;
 ghost use Rattle.svr_blast_tests.specs.declared.form.Form.TheVariants as form;
 ghost use Rattle.svr_blast_tests.specs.Forms as spec;
 
 use crate::form::Form;
+use crate::held::{both, listed};
 use sqlite_items::Items;
 use std::alloc::Global;
 use svr_eval::{BinaryKind, UnaryKind, binary_kind, unary_kind};
@@ -71,8 +72,7 @@ fn binary_sign(op: BinOp, signed: bool) -> bool
 fn applied(alloc: Global, op: BinOp, signed: bool) -> Result<TExpr, NoMemory>
     ensures { IfOk result (λ e. expr_term e ≡ spec.applied op signed) }
 {
-    let left = operand(alloc, signed, 0)?;
-    let right = operand(alloc, signed, 1)?;
+    let (left, right) = both(operand(alloc, signed, 0), operand(alloc, signed, 1))?;
     let node = TNode::binary(alloc, op, left, right)?;
     Ok(TExpr::new(binary_width(op), binary_sign(op, signed), node))
 }
@@ -98,16 +98,15 @@ fn unary_sign(op: UnOp, signed: bool) -> bool
 fn applied_one(alloc: Global, op: UnOp, signed: bool) -> Result<TExpr, NoMemory>
     ensures { IfOk result (λ e. expr_term e ≡ spec.applied_one op signed) }
 {
-    let node = TNode::unary(alloc, op, operand(alloc, signed, 0)?)?;
+    let arg = operand(alloc, signed, 0)?;
+    let node = TNode::unary(alloc, op, arg)?;
     Ok(TExpr::new(unary_width(op), unary_sign(op, signed), node))
 }
 
 fn join(alloc: Global, high: u32, low: u32) -> Result<TExpr, NoMemory>
     ensures { IfOk result (λ e. expr_term e ≡ spec.join_of high low) }
 {
-    let mut parts = Items::<TExpr>::new(alloc);
-    parts.push(scalar(high))?;
-    parts.push(scalar(low))?;
+    let parts = listed(alloc, [scalar(high), scalar(low)])?;
     Ok(TExpr::new(8, false, TNode::join(parts)))
 }
 
@@ -141,43 +140,57 @@ fn choice(alloc: Global) -> Result<TExpr, NoMemory>
     is_z(alloc, TExpr::new(4, false, node))
 }
 
+/// `{y, [-3:1], [z:$]}`
+fn set(alloc: Global, signed: bool) -> Result<Items<TRange>, NoMemory>
+    ensures { IfOk result (λ set. map range_term set ≡ spec.set_of signed) }
+{
+    let (value, least) = both(operand(alloc, signed, 1), operand(alloc, signed, 2))?;
+    let low = TBound::value(int(4_294_967_293));
+    let span = TRange::span(low, TBound::value(int(1)));
+    let rest = TRange::span(TBound::value(least), TBound::dollar());
+    listed(alloc, [TRange::one(value), span, rest])
+}
+
 fn inside(alloc: Global, signed: bool) -> Result<TExpr, NoMemory>
     ensures { IfOk result (λ e. expr_term e ≡ spec.item_of (form.Inside signed)) }
 {
-    let mut set = Items::<TRange>::new(alloc);
-    set.push(TRange::one(operand(alloc, signed, 1)?))?;
-    let low = TBound::value(int(4_294_967_293));
-    set.push(TRange::span(low, TBound::value(int(1))))?;
-    let least = TBound::value(operand(alloc, signed, 2)?);
-    set.push(TRange::span(least, TBound::dollar()))?;
-    let left = operand(alloc, signed, 0)?;
-    Ok(TExpr::new(1, false, TNode::inside(alloc, left, set)?))
+    let (left, set) = both(operand(alloc, signed, 0), set(alloc, signed))?;
+    let node = TNode::inside(alloc, left, set)?;
+    Ok(TExpr::new(1, false, node))
 }
 
 fn among_elements(alloc: Global) -> Result<TExpr, NoMemory>
     ensures { IfOk result (λ e. expr_term e ≡ spec.item_of form.Array) }
 {
-    let mut set = Items::<TRange>::new(alloc);
-    set.push(TRange::one(TExpr::new(2, false, TNode::prop(3))))?;
-    Ok(TExpr::new(1, false, TNode::inside(alloc, scalar(0), set)?))
+    let row = TRange::one(TExpr::new(2, false, TNode::prop(3)));
+    let set = listed(alloc, [row])?;
+    let node = TNode::inside(alloc, scalar(0), set)?;
+    Ok(TExpr::new(1, false, node))
 }
 
 fn joined(alloc: Global) -> Result<TExpr, NoMemory>
     ensures { IfOk result (λ e. expr_term e ≡ spec.item_of form.Join) }
 {
-    let left = join(alloc, 0, 1)?;
-    let right = join(alloc, 1, 2)?;
-    equal(alloc, difference(alloc, left, right)?, byte(7))
+    let (left, right) = both(join(alloc, 0, 1), join(alloc, 1, 2))?;
+    let difference = difference(alloc, left, right)?;
+    equal(alloc, difference, byte(7))
+}
+
+/// `{2{x}}`
+fn twice(alloc: Global) -> Result<TExpr, NoMemory>
+    ensures { IfOk result (λ e. expr_term e ≡ spec.twice_x) }
+{
+    let parts = listed(alloc, [scalar(0)])?;
+    let node = TNode::copies(alloc, int(2), parts)?;
+    Ok(TExpr::new(8, false, node))
 }
 
 fn copied(alloc: Global) -> Result<TExpr, NoMemory>
     ensures { IfOk result (λ e. expr_term e ≡ spec.item_of form.Copies) }
 {
-    let mut parts = Items::<TExpr>::new(alloc);
-    parts.push(scalar(0))?;
-    let left = TExpr::new(8, false, TNode::copies(alloc, int(2), parts)?);
-    let right = join(alloc, 1, 2)?;
-    equal(alloc, difference(alloc, left, right)?, byte(3))
+    let (left, right) = both(twice(alloc), join(alloc, 1, 2))?;
+    let difference = difference(alloc, left, right)?;
+    equal(alloc, difference, byte(3))
 }
 
 fn bit(alloc: Global, index: TExpr, low: i64) -> Result<TExpr, NoMemory>
@@ -238,20 +251,28 @@ fn element(alloc: Global, index: TExpr) -> Result<TExpr, NoMemory>
     is_z(alloc, row_at(alloc, index)?)
 }
 
+/// `d[x] == z`
+fn element_at_x(alloc: Global, signed: bool) -> Result<TExpr, NoMemory>
+    ensures { IfOk result (λ e. expr_term e ≡ spec.item_of (form.Element signed)) }
+{
+    let index = operand(alloc, signed, 0)?;
+    element(alloc, index)
+}
+
 /// `(x op y) == z`
 fn binary(alloc: Global, op: BinOp, signed: bool) -> Result<TExpr, NoMemory>
     ensures { IfOk result (λ e. expr_term e ≡ spec.item_of (form.Binary op signed)) }
 {
-    let left = applied(alloc, op, signed)?;
-    equal(alloc, left, operand(alloc, signed, 2)?)
+    let (left, z) = both(applied(alloc, op, signed), operand(alloc, signed, 2))?;
+    equal(alloc, left, z)
 }
 
 /// `(op x) == z`
 fn unary(alloc: Global, op: UnOp, signed: bool) -> Result<TExpr, NoMemory>
     ensures { IfOk result (λ e. expr_term e ≡ spec.item_of (form.Unary op signed)) }
 {
-    let left = applied_one(alloc, op, signed)?;
-    equal(alloc, left, operand(alloc, signed, 2)?)
+    let (left, z) = both(applied_one(alloc, op, signed), operand(alloc, signed, 2))?;
+    equal(alloc, left, z)
 }
 
 /// The item of a form.
@@ -270,7 +291,7 @@ pub(crate) fn item(alloc: Global, form: Form) -> Result<TExpr, NoMemory>
         Form::Bits => bits(alloc),
         Form::Every => every(alloc),
         Form::Script => script(alloc),
-        Form::Element { signed } => element(alloc, operand(alloc, signed, 0)?),
+        Form::Element { signed } => element_at_x(alloc, signed),
         Form::ElementAt => element(alloc, int(1)),
         Form::Cell => cell(alloc),
         Form::Reduce { op } => reduced(alloc, op),

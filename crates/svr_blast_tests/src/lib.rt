@@ -9,6 +9,8 @@ mod clauses;
 mod encoding;
 mod form;
 #[cfg(test)]
+mod held;
+#[cfg(test)]
 mod items;
 #[cfg(test)]
 mod sample;

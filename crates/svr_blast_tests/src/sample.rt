@@ -5,6 +5,7 @@ ghost use Rattle.svr_typed.specs.ClassTerm.{flat_term};
 ghost use Rattle.svr_frame.specs.Frame.{frame_term};
 ghost use Rattle.svr_blast_tests.specs.Sample as spec;
 
+use crate::held::{both, copied, listed};
 use sqlite_items::Items;
 use std::alloc::Global;
 use svr_eval::Assign;
@@ -34,33 +35,37 @@ fn random_prop(alloc: Global, array: ArrayKind, width: u8, inner: u32) -> Prop
 fn sample_class(alloc: Global) -> Result<FlatClass, NoMemory>
     ensures { IfOk result (λ class. flat_term class ≡ spec.sample_frame.class) }
 {
-    let mut props = Items::<Prop>::new(alloc);
-    props.push(random_prop(alloc, ArrayKind::Scalar, 4, 1))?;
-    props.push(random_prop(alloc, ArrayKind::Scalar, 4, 1))?;
-    props.push(random_prop(alloc, ArrayKind::Scalar, 4, 1))?;
-    props.push(random_prop(alloc, ArrayKind::Fixed(3), 2, 1))?;
-    props.push(random_prop(alloc, ArrayKind::Fixed(4), 1, 2))?;
-    props.push(random_prop(alloc, ArrayKind::Dynamic, 2, 1))?;
-    Ok(FlatClass {
-        props,
-        blocks: Items::<TBlock>::new(alloc),
-    })
+    let x = random_prop(alloc, ArrayKind::Scalar, 4, 1);
+    let y = random_prop(alloc, ArrayKind::Scalar, 4, 1);
+    let z = random_prop(alloc, ArrayKind::Scalar, 4, 1);
+    let row = random_prop(alloc, ArrayKind::Fixed(3), 2, 1);
+    let table = random_prop(alloc, ArrayKind::Fixed(4), 1, 2);
+    let list = random_prop(alloc, ArrayKind::Dynamic, 2, 1);
+    let props = listed(alloc, [x, y, z, row, table, list])?;
+    Ok(FlatClass::new(props, Items::<TBlock>::new(alloc)))
+}
+
+fn sample_values(alloc: Global) -> Result<Items<Items<u64>>, NoMemory>
+    ensures { IfOk result (λ values. values ≡ spec.sample_frame.state.values) }
+{
+    let scalars = both(
+        copied(alloc, &[0]),
+        both(copied(alloc, &[0]), copied(alloc, &[0])),
+    );
+    let arrays = both(copied(alloc, &[1, 2, 3]), copied(alloc, &[0, 0, 0, 0]));
+    let ((x, (y, z)), (row, table)) = both(scalars, arrays)?;
+    listed(alloc, [x, y, z, row, table, Items::<u64>::new(alloc)])
 }
 
 fn sample_state(alloc: Global) -> Result<Assign, NoMemory>
     ensures { IfOk result (λ state. state ≡ spec.sample_frame.state) }
 {
-    let mut values = Items::<Items<u64>>::new(alloc);
-    values.push(Items::from_slice(alloc, &[0])?)?;
-    values.push(Items::from_slice(alloc, &[0])?)?;
-    values.push(Items::from_slice(alloc, &[0])?)?;
-    values.push(Items::from_slice(alloc, &[1, 2, 3])?)?;
-    values.push(Items::from_slice(alloc, &[0, 0, 0, 0])?)?;
-    values.push(Items::<u64>::new(alloc))?;
+    let numbers = both(copied(alloc, &[1, 1, 1, 3, 4, 0]), copied(alloc, &[9]));
+    let (values, (sizes, script)) = both(sample_values(alloc), numbers)?;
     Ok(Assign {
         values,
-        sizes: Items::from_slice(alloc, &[1, 1, 1, 3, 4, 0])?,
-        script: Items::from_slice(alloc, &[9])?,
+        sizes,
+        script,
     })
 }
 
@@ -68,12 +73,19 @@ fn sample_state(alloc: Global) -> Result<Assign, NoMemory>
 pub(crate) fn sample(alloc: Global) -> Result<Frame, NoMemory>
     ensures { IfOk result (λ frame. frame_term frame ≡ spec.sample_frame) }
 {
+    let random = copied(alloc, &[true, true, true, true, true, true]);
+    let flags = both(
+        random,
+        copied(alloc, &[false, false, false, false, false, true]),
+    );
+    let parts = both(sample_class(alloc), sample_state(alloc));
+    let ((class, state), (random, free_size)) = both(parts, flags)?;
     Ok(Frame {
-        class: sample_class(alloc)?,
+        class,
         enums: Items::<EnumType>::new(alloc),
-        state: sample_state(alloc)?,
-        random: Items::from_slice(alloc, &[true, true, true, true, true, true])?,
-        free_size: Items::from_slice(alloc, &[false, false, false, false, false, true])?,
+        state,
+        random,
+        free_size,
         items: Items::<TItem>::new(alloc),
     })
 }

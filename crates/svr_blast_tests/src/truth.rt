@@ -3,14 +3,14 @@
 ghost use Rattle.std.specs.Prelude.{◌≡◌, ◌<◌, ◌≤◌};
 
 use crate::clauses::root_value;
-use crate::encoding::encoded;
+use crate::encoding::agrees;
 use crate::form::Form;
 use crate::items::part_of;
-use std::alloc::{AllocError, Global};
-use std::test::Fail;
+use std::alloc::Global;
+use svr_chain::{Cnf, Lit};
+use svr_encoded::Encoded;
 use svr_frame::Part;
 use svr_operator::{BinOp, Fold, UnOp};
-use svr_typed::NoMemory;
 
 /// The numbers that an item reads.
 #[derive(Clone, Copy)]
@@ -216,14 +216,14 @@ fn spread(form: Form, number: u64) -> u64
 }
 
 /// The bits of all unknowns at 64 values in a row of those that the item reads.
-fn row_of(alloc: Global, form: Form, first: u64) -> Result<Vec<u64>, AllocError>
+fn row_of(form: Form, first: u64) -> [u64; 64]
     requires first { first < 65536 }
 {
-    let mut row = Vec::new(alloc);
-    for step in 0..64 {
-        row.push(spread(form, (first + step) % 65_536))?;
+    let mut row = [0; 64];
+    for step in 0..64u64 {
+        row[step as usize] = spread(form, (first + step) % 65_536);
     }
-    Ok(row)
+    row
 }
 
 /// The bits at `place` of the numbers.
@@ -245,151 +245,190 @@ fn truths(form: Form, part: Part, row: &[u64]) -> u64 {
 }
 
 /// The words of the first variables.
-fn words_of(alloc: Global, row: &[u64], count: u64) -> Result<Vec<u64>, AllocError> {
-    let mut words = Vec::new(alloc);
-    for place in 0..count {
-        words.push(word_at(row, place))?;
+fn words_of(row: &[u64]) -> [u64; 22] {
+    let mut words = [0; 22];
+    for place in 0..22u64 {
+        words[place as usize] = word_at(row, place);
     }
-    Ok(words)
+    words
 }
 
-/// Whether the clauses of an item are true to it at all values of what it reads.
-fn agrees(alloc: Global, form: Form) -> Result<bool, NoMemory> {
-    let part = part_of(form);
-    let count = match part {
+/// How many variables of a part have a word.
+fn bits_of(part: Part) -> usize
+    ensures { result ≤ 22 }
+{
+    match part {
         Part::Randc | Part::Sizes => 15,
         Part::All => 22,
-    };
-    let e = encoded(alloc, form)?;
+    }
+}
+
+/// Whether the clauses are true to an item at 64 values of what it reads.
+fn agrees_at(alloc: Global, cnf: &Cnf, root: Lit, form: Form, first: u64) -> bool
+    requires { first < 65536 }
+{
+    let part = part_of(form);
+    let row = row_of(form, first);
+    let words = words_of(&row);
+    let told = root_value(alloc, cnf, root, &words[..bits_of(part)]);
+    told.is_settled == u64::MAX && told.is_true == truths(form, part, &row)
+}
+
+/// Whether the clauses are true to an item at all values of what it reads.
+fn agrees_over(alloc: Global, cnf: &Cnf, root: Lit, form: Form) -> bool {
     for turn in 0..tries(form).min(65_536) / 64 {
-        let row = row_of(alloc, form, turn * 64 % 65_536)?;
-        let told = root_value(alloc, &e, &words_of(alloc, &row, count)?)?;
-        if told.is_settled != u64::MAX || told.is_true != truths(form, part, &row) {
-            return Ok(false);
+        if !agrees_at(alloc, cnf, root, form, turn * 64 % 65_536) {
+            return false;
         }
     }
-    Ok(true)
+    true
 }
 
-#[test]
-fn arithmetic(rt: HostRuntime) -> Result<(), Fail> {
-    for signed in [false, true] {
-        for op in [
-            BinOp::Multiply,
-            BinOp::Divide,
-            BinOp::Modulus,
-            BinOp::Add,
-            BinOp::Subtract,
-            BinOp::ShiftLeft,
-            BinOp::ShiftRight,
-            BinOp::ShiftLeftArith,
-            BinOp::ShiftRightArith,
-            BinOp::BitwiseAnd,
-            BinOp::BitwiseXor,
-            BinOp::BitwiseTildeXor,
-            BinOp::BitwiseXorTilde,
-            BinOp::BitwiseOr,
-        ] {
-            assert!(rt;
-                agrees(rt.alloc(), Form::Binary { op, signed })?,
-                "{op:?} {signed}"
-            );
+/// Whether there are clauses, and they are true to their first item at all values of what it reads.
+pub(crate) fn agrees_with<E>(alloc: Global, encoded: &Result<Encoded, E>, form: Form) -> bool {
+    match encoded {
+        Ok(encoded) => match encoded.roots.first() {
+            Some(root) => agrees_over(alloc, &encoded.cnf, *root, form),
+            None => false,
+        },
+        Err(_) => false,
+    }
+}
+
+const ARITHMETIC: [BinOp; 14] = [
+    BinOp::Multiply,
+    BinOp::Divide,
+    BinOp::Modulus,
+    BinOp::Add,
+    BinOp::Subtract,
+    BinOp::ShiftLeft,
+    BinOp::ShiftRight,
+    BinOp::ShiftLeftArith,
+    BinOp::ShiftRightArith,
+    BinOp::BitwiseAnd,
+    BinOp::BitwiseXor,
+    BinOp::BitwiseTildeXor,
+    BinOp::BitwiseXorTilde,
+    BinOp::BitwiseOr,
+];
+
+const COMPARISONS: [BinOp; 12] = [
+    BinOp::Less,
+    BinOp::AtMost,
+    BinOp::Greater,
+    BinOp::AtLeast,
+    BinOp::Equal,
+    BinOp::NotEqual,
+    BinOp::CaseEqual,
+    BinOp::CaseNotEqual,
+    BinOp::LogicalAnd,
+    BinOp::LogicalOr,
+    BinOp::Implies,
+    BinOp::Equivalent,
+];
+
+const CHANGES: [UnOp; 11] = [
+    UnOp::Plus,
+    UnOp::Minus,
+    UnOp::LogicalNot,
+    UnOp::BitwiseNot,
+    UnOp::ReduceAnd,
+    UnOp::ReduceNand,
+    UnOp::ReduceOr,
+    UnOp::ReduceNor,
+    UnOp::ReduceXor,
+    UnOp::ReduceTildeXor,
+    UnOp::ReduceXorTilde,
+];
+
+const SELECTS: [Form; 10] = [
+    Form::Choice,
+    Form::Inside { signed: false },
+    Form::Inside { signed: true },
+    Form::Array,
+    Form::Join,
+    Form::Copies,
+    Form::Bit,
+    Form::Bits,
+    Form::Every,
+    Form::Script,
+];
+
+const ELEMENTS: [Form; 10] = [
+    Form::Element { signed: false },
+    Form::Element { signed: true },
+    Form::ElementAt,
+    Form::Cell,
+    Form::KnownElement,
+    Form::Reduce { op: Fold::Sum },
+    Form::Reduce { op: Fold::Product },
+    Form::Reduce { op: Fold::And },
+    Form::Reduce { op: Fold::Or },
+    Form::Reduce { op: Fold::Xor },
+];
+
+const SIZES: [Form; 3] = [Form::Size, Form::SizedElement, Form::SizedBit];
+
+fn binaries_agree(alloc: Global, ops: &[BinOp], signed: bool) -> bool {
+    for op in ops {
+        if !agrees(alloc, Form::Binary { op: *op, signed }) {
+            return false;
         }
     }
-    Ok(())
+    true
 }
 
-#[test]
-fn comparisons(rt: HostRuntime) -> Result<(), Fail> {
-    for signed in [false, true] {
-        for op in [
-            BinOp::Less,
-            BinOp::AtMost,
-            BinOp::Greater,
-            BinOp::AtLeast,
-            BinOp::Equal,
-            BinOp::NotEqual,
-            BinOp::CaseEqual,
-            BinOp::CaseNotEqual,
-            BinOp::LogicalAnd,
-            BinOp::LogicalOr,
-            BinOp::Implies,
-            BinOp::Equivalent,
-        ] {
-            assert!(rt;
-                agrees(rt.alloc(), Form::Binary { op, signed })?,
-                "{op:?} {signed}"
-            );
+fn unaries_agree(alloc: Global, ops: &[UnOp], signed: bool) -> bool {
+    for op in ops {
+        if !agrees(alloc, Form::Unary { op: *op, signed }) {
+            return false;
         }
     }
-    Ok(())
+    true
 }
 
-#[test]
-fn changes_and_reductions(rt: HostRuntime) -> Result<(), Fail> {
-    for signed in [false, true] {
-        for op in [
-            UnOp::Plus,
-            UnOp::Minus,
-            UnOp::LogicalNot,
-            UnOp::BitwiseNot,
-            UnOp::ReduceAnd,
-            UnOp::ReduceNand,
-            UnOp::ReduceOr,
-            UnOp::ReduceNor,
-            UnOp::ReduceXor,
-            UnOp::ReduceTildeXor,
-            UnOp::ReduceXorTilde,
-        ] {
-            assert!(rt;
-                agrees(rt.alloc(), Form::Unary { op, signed })?,
-                "{op:?} {signed}"
-            );
+fn all_agree(alloc: Global, forms: &[Form]) -> bool {
+    for form in forms {
+        if !agrees(alloc, *form) {
+            return false;
         }
     }
-    Ok(())
+    true
 }
 
 #[test]
-fn selects_and_sets(rt: HostRuntime) -> Result<(), Fail> {
-    for form in [
-        Form::Choice,
-        Form::Inside { signed: false },
-        Form::Inside { signed: true },
-        Form::Array,
-        Form::Join,
-        Form::Copies,
-        Form::Bit,
-        Form::Bits,
-        Form::Every,
-        Form::Script,
-    ] {
-        assert!(rt; agrees(rt.alloc(), form)?, "{form:?}");
-    }
-    Ok(())
+fn arithmetic(rt: HostRuntime) {
+    let alloc = rt.alloc();
+    assert!(rt;
+        binaries_agree(alloc, &ARITHMETIC, false) && binaries_agree(alloc, &ARITHMETIC, true)
+    );
 }
 
 #[test]
-fn elements(rt: HostRuntime) -> Result<(), Fail> {
-    for form in [
-        Form::Element { signed: false },
-        Form::Element { signed: true },
-        Form::ElementAt,
-        Form::Cell,
-        Form::KnownElement,
-    ] {
-        assert!(rt; agrees(rt.alloc(), form)?, "{form:?}");
-    }
-    for op in [Fold::Sum, Fold::Product, Fold::And, Fold::Or, Fold::Xor] {
-        assert!(rt; agrees(rt.alloc(), Form::Reduce { op })?, "{op:?}");
-    }
-    Ok(())
+fn comparisons(rt: HostRuntime) {
+    let alloc = rt.alloc();
+    assert!(rt;
+        binaries_agree(alloc, &COMPARISONS, false) && binaries_agree(alloc, &COMPARISONS, true)
+    );
 }
 
 #[test]
-fn sizes(rt: HostRuntime) -> Result<(), Fail> {
-    for form in [Form::Size, Form::SizedElement, Form::SizedBit] {
-        assert!(rt; agrees(rt.alloc(), form)?, "{form:?}");
-    }
-    Ok(())
+fn changes_and_reductions(rt: HostRuntime) {
+    let alloc = rt.alloc();
+    assert!(rt; unaries_agree(alloc, &CHANGES, false) && unaries_agree(alloc, &CHANGES, true));
+}
+
+#[test]
+fn selects_and_sets(rt: HostRuntime) {
+    assert!(rt; all_agree(rt.alloc(), &SELECTS));
+}
+
+#[test]
+fn elements(rt: HostRuntime) {
+    assert!(rt; all_agree(rt.alloc(), &ELEMENTS));
+}
+
+#[test]
+fn sizes(rt: HostRuntime) {
+    assert!(rt; all_agree(rt.alloc(), &SIZES));
 }

@@ -1,9 +1,8 @@
 // With ample memory each copy is made, and a class is flattened.
 
-use crate::held::{both, is_made, let_go, pushed};
+use crate::held::{both, is_made, let_go, listed, pushed};
 use sqlite_items::Items;
 use std::alloc::Global;
-use std::test::Fail;
 use svr_flat::{copy_expr, copy_item, flatten};
 use svr_operator::{BinOp, Fold, Rand, Share, UnOp};
 use svr_typed::{
@@ -49,14 +48,12 @@ fn number(value: u64) -> TExpr {
 }
 
 fn one_range(alloc: Global) -> Result<Items<TRange>, NoMemory> {
-    pushed(
-        Items::<TRange>::new(alloc),
-        Ok(TRange::span(TBound::value(number(1)), TBound::dollar())),
-    )
+    let low = TBound::value(number(1));
+    listed(alloc, [TRange::span(low, TBound::dollar())])
 }
 
 fn one_part(alloc: Global) -> Result<Items<TExpr>, NoMemory> {
-    pushed(Items::<TExpr>::new(alloc), Ok(number(1)))
+    listed(alloc, [number(1)])
 }
 
 fn inside(alloc: Global) -> Result<TNode, NoMemory> {
@@ -87,19 +84,26 @@ fn node(alloc: Global, form: &Form) -> Result<TNode, NoMemory> {
     }
 }
 
-fn is_copied(alloc: Global, form: &Form) -> Result<bool, NoMemory> {
-    let e = TExpr::new(32, true, node(alloc, form)?);
-    let copy = copy_expr(alloc, &e);
+fn expr(alloc: Global, form: &Form) -> Result<TExpr, NoMemory> {
+    let node = node(alloc, form)?;
+    Ok(TExpr::new(32, true, node))
+}
+
+fn is_copied(alloc: Global, form: &Form) -> bool {
+    let e = expr(alloc, form);
+    let is_so = match &e {
+        Ok(e) => is_made(copy_expr(alloc, e)),
+        Err(_) => false,
+    };
     let_go(e);
-    Ok(is_made(copy))
+    is_so
 }
 
 #[test]
-fn expressions_are_copied(rt: HostRuntime) -> Result<(), Fail> {
+fn expressions_are_copied(rt: HostRuntime) {
     for form in &FORMS {
-        assert!(rt; is_copied(rt.alloc(), form)?);
+        assert!(rt; is_copied(rt.alloc(), form));
     }
-    Ok(())
 }
 
 /// A constraint item with expressions or items below it.
@@ -127,18 +131,12 @@ const ITEM_FORMS: [ItemForm; 8] = [
 
 /// The item `value`.
 fn one_item(alloc: Global, value: u64) -> Result<Items<TItem>, NoMemory> {
-    pushed(
-        Items::<TItem>::new(alloc),
-        Ok(TItem::plain(false, number(value), None)),
-    )
+    listed(alloc, [TItem::plain(false, number(value), None)])
 }
 
 fn one_member(alloc: Global) -> Result<Items<TDistItem>, NoMemory> {
     let weight = Some((Share::Whole, number(3)));
-    pushed(
-        Items::<TDistItem>::new(alloc),
-        Ok(TDistItem::new(TRange::one(number(1)), weight)),
-    )
+    listed(alloc, [TDistItem::new(TRange::one(number(1)), weight)])
 }
 
 fn dist(alloc: Global) -> Result<TItem, NoMemory> {
@@ -176,19 +174,21 @@ fn item(alloc: Global, form: &ItemForm) -> Result<TItem, NoMemory> {
     }
 }
 
-fn is_item_copied(alloc: Global, form: &ItemForm) -> Result<bool, NoMemory> {
-    let item = item(alloc, form)?;
-    let copy = copy_item(alloc, &item);
+fn is_item_copied(alloc: Global, form: &ItemForm) -> bool {
+    let item = item(alloc, form);
+    let is_so = match &item {
+        Ok(item) => is_made(copy_item(alloc, item)),
+        Err(_) => false,
+    };
     let_go(item);
-    Ok(is_made(copy))
+    is_so
 }
 
 #[test]
-fn items_are_copied(rt: HostRuntime) -> Result<(), Fail> {
+fn items_are_copied(rt: HostRuntime) {
     for form in &ITEM_FORMS {
-        assert!(rt; is_item_copied(rt.alloc(), form)?);
+        assert!(rt; is_item_copied(rt.alloc(), form));
     }
-    Ok(())
 }
 
 fn name(alloc: Global, letter: u8) -> Result<Text, NoMemory> {
@@ -233,32 +233,27 @@ fn class(
     letters: &[u8],
     value: u64,
 ) -> Result<TClass, NoMemory> {
-    let props = pushed(Items::<Prop>::new(alloc), bit(alloc, prop));
-    let parts = both(props, blocks(alloc, letters, value));
+    let prop = bit(alloc, prop)?;
+    let parts = both(listed(alloc, [prop]), blocks(alloc, letters, value));
     let (name, (props, blocks)) = both(name(alloc, b'C'), parts)?;
     Ok(TClass::new(name, base, props, blocks))
 }
 
 /// D extends B; both have a block c, and B has a block e behind it.
 fn two_classes(alloc: Global) -> Result<Items<TClass>, NoMemory> {
-    let classes = pushed(
-        Items::<TClass>::new(alloc),
-        class(alloc, None, b'x', b"ce", 0),
-    )?;
-    pushed(classes, class(alloc, Some(0), b'a', b"c", 1))
+    let base = class(alloc, None, b'x', b"ce", 0);
+    let (base, derived) = both(base, class(alloc, Some(0), b'a', b"c", 1))?;
+    listed(alloc, [base, derived])
 }
 
-fn flat(alloc: Global, class: u32) -> Result<FlatClass, NoMemory> {
+fn design(alloc: Global) -> Result<Design, NoMemory> {
     let classes = two_classes(alloc)?;
-    let design = Design::new(
+    Ok(Design::new(
         Items::<EnumType>::new(alloc),
         classes,
         Items::<TVar>::new(alloc),
         Items::<TStmt>::new(alloc),
-    );
-    let flat = flatten(alloc, &design, class);
-    let_go(design);
-    flat
+    ))
 }
 
 /// Whether the item is just this number.
@@ -297,20 +292,42 @@ fn has_own_block_last(flat: &FlatClass) -> bool {
     }
 }
 
-#[test]
-fn a_derived_class_has_its_own_block_last(rt: HostRuntime) -> Result<(), Fail> {
-    let flat = flat(rt.alloc(), 1)?;
-    let is_so = has_both_properties(&flat) && has_own_block_last(&flat);
+/// Whether the derived class has its own block last, and a number of no class has nothing.
+fn is_flat(flat: &FlatClass, class: u32) -> bool {
+    if class == 1 {
+        has_both_properties(flat) && has_own_block_last(flat)
+    } else {
+        flat.props.is_empty() && flat.blocks.is_empty()
+    }
+}
+
+fn is_flattened(alloc: Global, design: &Design, class: u32) -> bool {
+    let flat = flatten(alloc, design, class);
+    let is_so = match &flat {
+        Ok(flat) => is_flat(flat, class),
+        Err(_) => false,
+    };
     let_go(flat);
-    assert!(rt; is_so);
-    Ok(())
+    is_so
+}
+
+/// Whether the class of this number is flattened as it is to be.
+fn is_right(alloc: Global, class: u32) -> bool {
+    let design = design(alloc);
+    let is_so = match &design {
+        Ok(design) => is_flattened(alloc, design, class),
+        Err(_) => false,
+    };
+    let_go(design);
+    is_so
 }
 
 #[test]
-fn a_number_of_no_class_has_nothing(rt: HostRuntime) -> Result<(), Fail> {
-    let none = flat(rt.alloc(), 2)?;
-    let is_so = none.props.is_empty() && none.blocks.is_empty();
-    let_go(none);
-    assert!(rt; is_so);
-    Ok(())
+fn a_derived_class_has_its_own_block_last(rt: HostRuntime) {
+    assert!(rt; is_right(rt.alloc(), 1));
+}
+
+#[test]
+fn a_number_of_no_class_has_nothing(rt: HostRuntime) {
+    assert!(rt; is_right(rt.alloc(), 2));
 }

@@ -4,10 +4,9 @@ ghost use Rattle.std.specs.Prelude.{◌≡◌, ◌≤◌, ◌+◌, ◌-◌, ◌^
 ghost use Rattle.svr_limits.specs.declared.limit.TheConstants.{ELEMENT_LIMIT};
 ghost use Rattle.svr_world.specs.Fits.{AreShort, AreRising, AreSmall};
 
-use crate::held::let_go;
+use crate::held::{both, copied, let_go, listed};
 use sqlite_items::Items;
 use std::alloc::Global;
-use std::test::Fail;
 use svr_operator::Rand;
 use svr_typed::{
     ArrayKind, Design, EnumType, FlatClass, NoMemory, NumType, Prop, TBlock, TClass, TItem, TStmt,
@@ -63,17 +62,26 @@ fn prop(alloc: Global, array: ArrayKind, first: u64) -> Prop
     }
 }
 
-/// A scalar that starts at 7, a fixed array of two, a queue, and a block.
+/// A scalar that starts at 7, a fixed array of two, and a queue.
+fn props(alloc: Global) -> Result<Items<Prop>, NoMemory>
+    ensures { IfOk result (λ props. AreSmall props) }
+{
+    let scalar = prop(alloc, ArrayKind::Scalar, 7);
+    let fixed = prop(alloc, ArrayKind::Fixed(2), 0);
+    listed(alloc, [scalar, fixed, prop(alloc, ArrayKind::Dynamic, 0)])
+}
+
+/// A block without items.
+fn blocks(alloc: Global) -> Result<Items<TBlock>, NoMemory> {
+    let name = Text::from_vec(Vec::new(alloc));
+    listed(alloc, [TBlock::new(name, Items::<TItem>::new(alloc))])
+}
+
+/// The properties and the block.
 fn class(alloc: Global) -> Result<FlatClass, NoMemory>
     ensures { IfOk result (λ flat. AreSmall flat.props) }
 {
-    let mut props = Items::<Prop>::new(alloc);
-    props.push(prop(alloc, ArrayKind::Scalar, 7))?;
-    props.push(prop(alloc, ArrayKind::Fixed(2), 0))?;
-    props.push(prop(alloc, ArrayKind::Dynamic, 0))?;
-    let mut blocks = Items::<TBlock>::new(alloc);
-    let items = Items::<TItem>::new(alloc);
-    blocks.push(TBlock::new(Text::from_vec(Vec::new(alloc)), items))?;
+    let (props, blocks) = both(props(alloc), blocks(alloc))?;
     Ok(FlatClass { props, blocks })
 }
 
@@ -86,26 +94,27 @@ fn var(alloc: Global, kind: VarKind) -> TVar {
 
 /// A number and an object of the class 3.
 fn two_vars(alloc: Global) -> Result<Items<TVar>, NoMemory> {
-    let mut vars = Items::<TVar>::new(alloc);
     let bit = NumType {
         width: 1,
         signed: false,
         members: None,
     };
-    vars.push(var(alloc, VarKind::Number(bit)))?;
-    vars.push(var(alloc, VarKind::Object(3)))?;
-    Ok(vars)
+    let number = var(alloc, VarKind::Number(bit));
+    listed(alloc, [number, var(alloc, VarKind::Object(3))])
 }
 
 /// The world of two variables, of which nothing was made.
 fn blank(alloc: Global) -> Result<World, NoMemory> {
+    let vars = two_vars(alloc)?;
     let design = Design::new(
         Items::<EnumType>::new(alloc),
         Items::<TClass>::new(alloc),
-        two_vars(alloc)?,
+        vars,
         Items::<TStmt>::new(alloc),
     );
-    World::new(alloc, &design)
+    let world = World::new(alloc, &design);
+    let_go(design);
+    world
 }
 
 #[test]
@@ -124,16 +133,15 @@ const FIXED: u32 = 1;
 
 const QUEUE: u32 = 2;
 
-fn make(alloc: Global, world: &mut World) -> Result<(), NoMemory> {
-    let class = class(alloc)?;
-    world.make(alloc, OBJECT, &class)
-}
-
-/// A world in which the object was made.
-fn made(alloc: Global) -> Result<World, NoMemory> {
-    let mut world = blank(alloc)?;
-    make(alloc, &mut world)?;
-    Ok(world)
+/// Whether the object is made.
+fn make(alloc: Global, world: &mut World) -> bool {
+    let class = class(alloc);
+    let is_made = match &class {
+        Ok(class) => world.make(alloc, OBJECT, class).is_ok(),
+        Err(_) => false,
+    };
+    let_go(class);
+    is_made
 }
 
 /// Whether the numbers stand at these places: property, index, number.
@@ -166,15 +174,6 @@ fn has_modes(world: &World, modes: &[bool; 4]) -> bool {
     true
 }
 
-#[test]
-fn nothing_is_made_at_first(rt: HostRuntime) -> Result<(), Fail> {
-    let world = blank(rt.alloc())?;
-    let is_made = world.is_made(OBJECT);
-    let_go(world);
-    assert!(rt; !is_made);
-    Ok(())
-}
-
 fn starts_with_values(world: &World) -> bool {
     let numbers = [(SCALAR, 0, 7), (FIXED, 0, 0), (FIXED, 1, 0), (3, 0, 0)];
     has_sizes(world, &[1, 2, 0, 0])
@@ -190,22 +189,8 @@ fn starts_switched_on(world: &World) -> bool {
         && !world.block_mode(OBJECT, 1)
 }
 
-#[test]
-fn an_object_starts_with_initial_values(rt: HostRuntime) -> Result<(), Fail> {
-    let world = made(rt.alloc())?;
-    let is_so = starts_with_values(&world) && starts_switched_on(&world);
-    let_go(world);
-    assert!(rt; is_so);
-    Ok(())
-}
-
-#[test]
-fn an_object_is_made_of_its_class(rt: HostRuntime) -> Result<(), Fail> {
-    let world = made(rt.alloc())?;
-    let is_so = world.is_made(OBJECT) && !world.is_made(0) && world.class_of(OBJECT) == 3;
-    let_go(world);
-    assert!(rt; is_so);
-    Ok(())
+fn is_made_of_its_class(world: &World) -> bool {
+    world.is_made(OBJECT) && !world.is_made(0) && world.class_of(OBJECT) == 3
 }
 
 fn write(world: &mut World, prop: u32, index: u32, number: u64) {
@@ -224,25 +209,23 @@ fn keeps_writes(world: &mut World) -> bool {
 }
 
 /// Whether the last element is `last` where the queue has this size; then 6 is written behind the first.
-fn is_resized(alloc: Global, world: &mut World, size: u32, last: u64) -> Result<bool, NoMemory>
+fn is_resized(alloc: Global, world: &mut World, size: u32, last: u64) -> bool
     requires low { 1 ≤ size }
     requires high { size ≤ ELEMENT_LIMIT }
 {
-    if !world.is_made(OBJECT) {
-        return Ok(false);
+    if !world.is_made(OBJECT) || world.resize(alloc, OBJECT, QUEUE, size).is_err() {
+        return false;
     }
-    world.resize(alloc, OBJECT, QUEUE, size)?;
     let found = world.get(OBJECT, QUEUE, size - 1);
     write(world, QUEUE, 1, 6);
-    Ok(found == last && has_sizes(world, &[1, 2, size, 0]))
+    found == last && has_sizes(world, &[1, 2, size, 0])
 }
 
-fn keeps_what_fits(alloc: Global, world: &mut World) -> Result<bool, NoMemory> {
-    let is_longer = is_resized(alloc, world, 3, 0)?;
-    let is_shorter = is_resized(alloc, world, 2, 6)?;
-    let is_longer_again = is_resized(alloc, world, 3, 0)?;
-    let numbers = [(FIXED, 1, 9), (QUEUE, 1, 6), (QUEUE, 2, 0)];
-    Ok(is_longer && is_shorter && is_longer_again && has_numbers(world, &numbers))
+fn keeps_what_fits(alloc: Global, world: &mut World) -> bool {
+    is_resized(alloc, world, 3, 0)
+        && is_resized(alloc, world, 2, 6)
+        && is_resized(alloc, world, 3, 0)
+        && has_numbers(world, &[(FIXED, 1, 9), (QUEUE, 1, 6), (QUEUE, 2, 0)])
 }
 
 /// Whether a script variable keeps its number, and one that is none does nothing.
@@ -252,17 +235,8 @@ fn keeps_script(world: &mut World) -> bool {
     world.script() == [1, 0].as_slice() && world.script_get(0) == 1
 }
 
-fn keeps_all(alloc: Global, world: &mut World) -> Result<bool, NoMemory> {
-    Ok(keeps_writes(world) && keeps_what_fits(alloc, world)? && keeps_script(world))
-}
-
-#[test]
-fn writes_and_sizes_stay(rt: HostRuntime) -> Result<(), Fail> {
-    let mut world = made(rt.alloc())?;
-    let found = keeps_all(rt.alloc(), &mut world);
-    let_go(world);
-    assert!(rt; found?);
-    Ok(())
+fn keeps_all(alloc: Global, world: &mut World) -> bool {
+    keeps_writes(world) && keeps_what_fits(alloc, world) && keeps_script(world)
 }
 
 /// Whether the properties are switched so behind the switch of one, or of all.
@@ -297,48 +271,35 @@ fn are_switched(world: &mut World) -> bool {
     is_block_switched(world)
 }
 
-#[test]
-fn modes_are_switched(rt: HostRuntime) -> Result<(), Fail> {
-    let mut world = made(rt.alloc())?;
-    let is_so = are_switched(&mut world);
-    let_go(world);
-    assert!(rt; is_so);
-    Ok(())
+fn replacement(alloc: Global, prop: u32, numbers: &[u64]) -> Result<Replacement, NoMemory>
+    ensures { IfOk result (λ r. r.numbers ≡ numbers.now) }
+{
+    let numbers = copied(alloc, numbers)?;
+    Ok(Replacement { prop, numbers })
 }
 
 /// The scalar is 2, and the queue has 5 and 6.
 fn new_values(alloc: Global) -> Result<Items<Replacement>, NoMemory>
     ensures { IfOk result (λ values. AreShort values) }
 {
-    let mut values = Items::<Replacement>::new(alloc);
-    values.push(Replacement {
-        prop: SCALAR,
-        numbers: Items::from_slice(alloc, &[2])?,
-    })?;
-    values.push(Replacement {
-        prop: QUEUE,
-        numbers: Items::from_slice(alloc, &[5, 6])?,
-    })?;
-    Ok(values)
+    let scalar = replacement(alloc, SCALAR, &[2]);
+    let (scalar, queue) = both(scalar, replacement(alloc, QUEUE, &[5, 6]))?;
+    listed(alloc, [scalar, queue])
 }
 
 /// The values 1 and 4 of the scalar are used.
 fn used_values(alloc: Global) -> Result<Items<Replacement>, NoMemory>
     ensures { IfOk result (λ used. AreRising used) }
 {
-    let mut used = Items::<Replacement>::new(alloc);
-    used.push(Replacement {
-        prop: SCALAR,
-        numbers: Items::from_slice(alloc, &[1, 4])?,
-    })?;
-    Ok(used)
+    let scalar = replacement(alloc, SCALAR, &[1, 4])?;
+    listed(alloc, [scalar])
 }
 
 fn change(alloc: Global) -> Result<Change, NoMemory>
-    ensures { IfOk result (λ change. AreShort change.values × AreRising change.used) }
+    ensures short { IfOk result (λ change. AreShort change.values) }
+    ensures rising { IfOk result (λ change. AreRising change.used) }
 {
-    let used = used_values(alloc)?;
-    let values = new_values(alloc)?;
+    let (values, used) = both(new_values(alloc), used_values(alloc))?;
     Ok(Change { values, used })
 }
 
@@ -346,6 +307,8 @@ fn commit(alloc: Global, world: &mut World) -> Result<(), NoMemory> {
     let change = change(alloc)?;
     if world.is_made(OBJECT) {
         world.commit(OBJECT, change);
+    } else {
+        let_go(change);
     }
     Ok(())
 }
@@ -363,18 +326,72 @@ fn is_new(world: &World) -> bool {
 }
 
 /// Whether a change replaces what it names, until the object is made anew.
-fn is_changed(alloc: Global, world: &mut World) -> Result<bool, NoMemory> {
-    commit(alloc, world)?;
-    let is_replaced = is_replaced(world);
-    make(alloc, world)?;
-    Ok(is_replaced && is_new(world))
+fn is_changed(alloc: Global, world: &mut World) -> bool {
+    commit(alloc, world).is_ok() && is_replaced(world) && make(alloc, world) && is_new(world)
+}
+
+/// What is tried of an object.
+#[derive(Clone, Copy)]
+enum Trial {
+    Nothing,
+    Start,
+    Class,
+    Writes,
+    Modes,
+    Change,
+}
+
+/// Whether nothing is made at first, or an object that is just made is as it is to be.
+fn is_right(alloc: Global, world: &mut World, trial: Trial) -> bool {
+    match trial {
+        Trial::Nothing => !world.is_made(OBJECT),
+        Trial::Start => {
+            make(alloc, world) && starts_with_values(world) && starts_switched_on(world)
+        }
+        Trial::Class => make(alloc, world) && is_made_of_its_class(world),
+        Trial::Writes => make(alloc, world) && keeps_all(alloc, world),
+        Trial::Modes => make(alloc, world) && are_switched(world),
+        Trial::Change => make(alloc, world) && is_changed(alloc, world),
+    }
+}
+
+fn holds(alloc: Global, trial: Trial) -> bool {
+    let mut world = blank(alloc);
+    let is_so = match &mut world {
+        Ok(world) => is_right(alloc, world, trial),
+        Err(_) => false,
+    };
+    let_go(world);
+    is_so
 }
 
 #[test]
-fn a_change_replaces_what_it_names(rt: HostRuntime) -> Result<(), Fail> {
-    let mut world = made(rt.alloc())?;
-    let found = is_changed(rt.alloc(), &mut world);
-    let_go(world);
-    assert!(rt; found?);
-    Ok(())
+fn nothing_is_made_at_first(rt: HostRuntime) {
+    assert!(rt; holds(rt.alloc(), Trial::Nothing));
+}
+
+#[test]
+fn an_object_starts_with_initial_values(rt: HostRuntime) {
+    assert!(rt; holds(rt.alloc(), Trial::Start));
+}
+
+#[test]
+fn an_object_is_made_of_its_class(rt: HostRuntime) {
+    assert!(rt; holds(rt.alloc(), Trial::Class));
+}
+
+#[test]
+fn writes_and_sizes_stay(rt: HostRuntime) {
+    assert!(rt; holds(rt.alloc(), Trial::Writes));
+}
+
+#[test]
+fn modes_are_switched(rt: HostRuntime) {
+    assert!(rt; holds(rt.alloc(), Trial::Modes));
+}
+
+// Until the object is made anew.
+#[test]
+fn a_change_replaces_what_it_names(rt: HostRuntime) {
+    assert!(rt; holds(rt.alloc(), Trial::Change));
 }

@@ -3,9 +3,9 @@
 ghost use Rattle.std.specs.Prelude.{◌≡◌, ◌≤◌, ◌<◌, max, false};
 ghost use Rattle.svr_chain.specs.Clauses.{AreWithin};
 
+use crate::held::{finished, let_go};
 use crate::valuations::{input, meets};
 use std::alloc::Global;
-use std::test::Fail;
 use svr_chain::{Cnf, Lit};
 use svr_gate::{Builder, NoMemory, table};
 
@@ -86,6 +86,14 @@ fn gate<const K: usize>(
     }
 }
 
+/// Whether this is the literal of a variable.
+fn is_input(lit: Result<Lit, NoMemory>, var: u64) -> bool {
+    match lit {
+        Ok(lit) => lit.var == var && !lit.neg,
+        Err(_) => false,
+    }
+}
+
 /// Whether a gate of these inputs is the variable behind them, with so many clauses that define its table.
 fn is_gate<const K: usize>(
     alloc: Global,
@@ -93,37 +101,55 @@ fn is_gate<const K: usize>(
     count: usize,
     ins: [Lit; K],
     is_again: bool,
-) -> Result<bool, NoMemory>
+) -> bool
     requires few { K ≤ 4 }
     requires within { AreWithin K ins }
 {
-    let mut builder = Builder::new(alloc, K as u32)?;
-    let lit = gate::<K>(&mut builder, table, ins, is_again)?;
-    let cnf = builder.finish();
-    Ok(lit == input(K as u64 + 1) && cnf.clauses.len() == count && define_table(&cnf, table, K))
+    let mut made = Builder::new(alloc, K as u32);
+    let lit = match &mut made {
+        Ok(builder) => gate::<K>(builder, table, ins, is_again),
+        Err(refused) => Err(*refused),
+    };
+    let cnf = finished(alloc, made);
+    let is_so = is_input(lit, K as u64 + 1)
+        && cnf.clauses.len() == count
+        && define_table(&cnf, table, K);
+    let_go(cnf);
+    is_so
 }
 
-#[test]
-fn named_tables(rt: HostRuntime) -> Result<(), Fail> {
-    for is_again in [false, true] {
-        for (table, count) in &OF_TWO {
-            assert!(rt; is_gate(rt.alloc(), *table, *count, [input(1), input(2)], is_again)?);
-        }
-        for (table, count) in &OF_THREE {
-            let ins = [input(1), input(2), input(3)];
-            assert!(rt; is_gate(rt.alloc(), *table, *count, ins, is_again)?);
+fn are_of_two(alloc: Global, is_again: bool) -> bool {
+    for (table, count) in &OF_TWO {
+        if !is_gate(alloc, *table, *count, [input(1), input(2)], is_again) {
+            return false;
         }
     }
-    Ok(())
+    true
+}
+
+fn are_of_three(alloc: Global, is_again: bool) -> bool {
+    for (table, count) in &OF_THREE {
+        let ins = [input(1), input(2), input(3)];
+        if !is_gate(alloc, *table, *count, ins, is_again) {
+            return false;
+        }
+    }
+    true
 }
 
 #[test]
-fn other_tables(rt: HostRuntime) -> Result<(), Fail> {
+fn named_tables(rt: HostRuntime) {
+    for is_again in [false, true] {
+        assert!(rt; are_of_two(rt.alloc(), is_again) && are_of_three(rt.alloc(), is_again));
+    }
+}
+
+#[test]
+fn other_tables(rt: HostRuntime) {
     for (table, count) in &OF_FOUR {
         let ins = [input(1), input(2), input(3), input(4)];
-        assert!(rt; is_gate(rt.alloc(), *table, *count, ins, false)?);
+        assert!(rt; is_gate(rt.alloc(), *table, *count, ins, false));
     }
-    Ok(())
 }
 
 /// The input that is named x, y or z.
@@ -137,28 +163,39 @@ fn input_of(name: u8) -> Lit
     }
 }
 
-/// A gate of the three inputs, and that of the inputs in this order.
-fn two_gates(builder: &mut Builder, table: u16, order: &[u8; 3]) -> Result<(Lit, Lit), NoMemory>
-    requires { builder.old.vars ≡ 3 }
-{
-    let first = builder.define::<3>(table, [input(1), input(2), input(3)])?;
-    let [x, y, z] = *order;
-    let second = builder.define::<3>(table, [input_of(x), input_of(y), input_of(z)])?;
-    Ok((first, second))
+/// Whether two gates are one, as is told.
+fn are_one(first: Result<Lit, NoMemory>, second: Result<Lit, NoMemory>, shared: bool) -> bool {
+    match first.ok().zip(second.ok()) {
+        Some((first, second)) => { (first.var == second.var && first.neg == second.neg) == shared }
+        None => false,
+    }
 }
 
-fn is_shared(alloc: Global, table: u16, order: &[u8; 3]) -> Result<bool, NoMemory> {
-    let mut builder = Builder::new(alloc, 3)?;
-    let (first, second) = two_gates(&mut builder, table, order)?;
-    Ok(first == second)
+/// Whether a gate of the three inputs and that of the inputs in this order are one, as is told.
+fn are_shared(builder: &mut Builder, table: u16, order: &[u8; 3], shared: bool) -> bool
+    requires { builder.old.vars ≡ 3 }
+{
+    let first = builder.define::<3>(table, [input(1), input(2), input(3)]);
+    let [x, y, z] = *order;
+    let second = builder.define::<3>(table, [input_of(x), input_of(y), input_of(z)]);
+    are_one(first, second, shared)
+}
+
+fn is_shared(alloc: Global, table: u16, order: &[u8; 3], shared: bool) -> bool {
+    let mut made = Builder::new(alloc, 3);
+    let is_so = match &mut made {
+        Ok(builder) => are_shared(builder, table, order, shared),
+        Err(_) => false,
+    };
+    let_go(made);
+    is_so
 }
 
 #[test]
-fn order_of_inputs(rt: HostRuntime) -> Result<(), Fail> {
+fn order_of_inputs(rt: HostRuntime) {
     for (table, order, shared) in &ORDERS {
-        assert!(rt; is_shared(rt.alloc(), *table, order)? == *shared);
+        assert!(rt; is_shared(rt.alloc(), *table, order, *shared));
     }
-    Ok(())
 }
 
 /// The constant 0 or 1, or the input that is named x or y.
@@ -189,26 +226,32 @@ fn gate_and_operand(
     Ok((lit, operand(zero, wanted)))
 }
 
+/// Whether a literal is the one that is wanted, or its negation.
+fn is_wanted(found: Result<(Lit, Lit), NoMemory>, neg: bool) -> bool {
+    match found {
+        Ok((lit, wanted)) => lit.var == wanted.var && lit.neg == (wanted.neg != neg),
+        Err(_) => false,
+    }
+}
+
 /// Whether a gate of the two operands is the one that is wanted, or its negation, and takes no clause.
-fn is_folded(
-    alloc: Global,
-    table: u16,
-    ins: &[u8; 2],
-    wanted: u8,
-    neg: bool,
-) -> Result<bool, NoMemory> {
-    let mut builder = Builder::new(alloc, 2)?;
-    let (lit, wanted) = gate_and_operand(&mut builder, table, ins, wanted)?;
-    let count = builder.finish().clauses.len();
-    Ok(lit.var == wanted.var && lit.neg == (wanted.neg != neg) && count == 1)
+fn is_folded(alloc: Global, table: u16, ins: &[u8; 2], wanted: u8, neg: bool) -> bool {
+    let mut made = Builder::new(alloc, 2);
+    let found = match &mut made {
+        Ok(builder) => gate_and_operand(builder, table, ins, wanted),
+        Err(refused) => Err(*refused),
+    };
+    let cnf = finished(alloc, made);
+    let count = cnf.clauses.len();
+    let_go(cnf);
+    count == 1 && is_wanted(found, neg)
 }
 
 #[test]
-fn folding(rt: HostRuntime) -> Result<(), Fail> {
+fn folding(rt: HostRuntime) {
     for (table, ins, wanted, neg) in &FOLDED {
-        assert!(rt; is_folded(rt.alloc(), *table, ins, *wanted, *neg)?);
+        assert!(rt; is_folded(rt.alloc(), *table, ins, *wanted, *neg));
     }
-    Ok(())
 }
 
 /// A gate whose third input is known.
@@ -219,17 +262,22 @@ fn gate_beside(builder: &mut Builder, table: u16, third: u8) -> Result<Lit, NoMe
     builder.define::<3>(table, [input(1), input(2), operand(zero, third)])
 }
 
-/// How many clauses there are of a constant and a gate whose third input is known.
-fn clauses_beside(alloc: Global, table: u16, third: u8) -> Result<usize, NoMemory> {
-    let mut builder = Builder::new(alloc, 2)?;
-    let _gate = gate_beside(&mut builder, table, third)?;
-    Ok(builder.finish().clauses.len())
+/// Whether there are so many clauses of a gate whose third input is known, behind that of a constant.
+fn has_clauses(alloc: Global, table: u16, third: u8, wanted: usize) -> bool {
+    let mut made = Builder::new(alloc, 2);
+    let is_made = match &mut made {
+        Ok(builder) => gate_beside(builder, table, third).is_ok(),
+        Err(_) => false,
+    };
+    let cnf = finished(alloc, made);
+    let count = cnf.clauses.len();
+    let_go(cnf);
+    is_made && count == wanted.wrapping_add(1)
 }
 
 #[test]
-fn known_inputs(rt: HostRuntime) -> Result<(), Fail> {
+fn known_inputs(rt: HostRuntime) {
     for (table, third, count) in &KNOWN {
-        assert!(rt; clauses_beside(rt.alloc(), *table, *third)? == 1 + *count);
+        assert!(rt; has_clauses(rt.alloc(), *table, *third, *count));
     }
-    Ok(())
 }

@@ -8,6 +8,8 @@ mod circuits;
 #[cfg(test)]
 mod gates;
 #[cfg(test)]
+mod held;
+#[cfg(test)]
 mod numbers;
 #[cfg(test)]
 mod valuations;

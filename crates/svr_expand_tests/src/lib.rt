@@ -5,3 +5,5 @@
 
 #[cfg(test)]
 mod expansion;
+#[cfg(test)]
+mod held;

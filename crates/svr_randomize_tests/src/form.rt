@@ -1,7 +1,7 @@
 // The items that are asked.
 
 /// The items of a call over `rand bit [7:0] x, y; bit s [200]; randc bit [1:0] c; rand bit d [];`. The last two are random in the calls that name them alone.
-#[derive(Clone, Copy, Debug)]
+#[derive(Clone, Copy)]
 pub enum Form {
     /// `x == x`
     Free,

@@ -7,6 +7,8 @@
 mod answers;
 mod form;
 #[cfg(test)]
+mod held;
+#[cfg(test)]
 mod proofs_of;
 #[cfg(test)]
 mod sample;

@@ -7,7 +7,7 @@ use svr_encoded::Encoded;
 use svr_phase::{Proof, Renewed};
 
 /// How many proofs there are, and how many of them the checker accepts.
-#[derive(Clone, Copy, Debug, PartialEq, Eq)]
+#[derive(Clone, Copy)]
 pub(crate) struct Judged {
     pub(crate) proofs: u64,
     pub(crate) accepted: u64,

@@ -11,6 +11,7 @@ ghost use Rattle.svr_randomize_tests.specs.declared.form.Form.TheVariants as for
 ghost use Rattle.svr_randomize_tests.specs.Sample as spec;
 
 use crate::form::Form;
+use crate::held::{both, copied, let_go, listed};
 use sqlite_items::Items;
 use std::alloc::Global;
 use svr_eval::Assign;
@@ -44,16 +45,13 @@ fn declared(alloc: Global, rand: Rand, array: ArrayKind, width: u8, can: bool) -
 fn class(alloc: Global) -> Result<FlatClass, NoMemory>
     ensures { IfOk result (λ class. flat_term class ≡ spec.sample_class) }
 {
-    let mut props = Items::<Prop>::new(alloc);
-    props.push(declared(alloc, Rand::Rand, ArrayKind::Scalar, 8, true))?;
-    props.push(declared(alloc, Rand::Rand, ArrayKind::Scalar, 8, true))?;
-    props.push(declared(alloc, Rand::State, ArrayKind::Fixed(200), 1, false))?;
-    props.push(declared(alloc, Rand::Randc, ArrayKind::Scalar, 2, true))?;
-    props.push(declared(alloc, Rand::Rand, ArrayKind::Dynamic, 1, true))?;
-    Ok(FlatClass {
-        props,
-        blocks: Items::<TBlock>::new(alloc),
-    })
+    let x = declared(alloc, Rand::Rand, ArrayKind::Scalar, 8, true);
+    let y = declared(alloc, Rand::Rand, ArrayKind::Scalar, 8, true);
+    let row = declared(alloc, Rand::State, ArrayKind::Fixed(200), 1, false);
+    let cyclic = declared(alloc, Rand::Randc, ArrayKind::Scalar, 2, true);
+    let list = declared(alloc, Rand::Rand, ArrayKind::Dynamic, 1, true);
+    let props = listed(alloc, [x, y, row, cyclic, list])?;
+    Ok(FlatClass::new(props, Items::<TBlock>::new(alloc)))
 }
 
 fn byte(prop: u32) -> TExpr
@@ -97,17 +95,7 @@ fn compared(
 fn alone(alloc: Global, item: TItem) -> Result<Items<TItem>, NoMemory>
     ensures { IfOk result (λ items. items ≡ item ∷ []) }
 {
-    let mut items = Items::<TItem>::new(alloc);
-    items.push(item)?;
-    Ok(items)
-}
-
-fn both(alloc: Global, first: TItem, later: TItem) -> Result<Items<TItem>, NoMemory>
-    ensures { IfOk result (λ items. items ≡ first ∷ later ∷ []) }
-{
-    let mut items = alone(alloc, first)?;
-    items.push(later)?;
-    Ok(items)
+    listed(alloc, [item])
 }
 
 /// An item that is no soft one, alone.
@@ -142,9 +130,8 @@ fn kept(alloc: Global) -> Result<Items<TItem>, NoMemory>
 fn overruled(alloc: Global) -> Result<Items<TItem>, NoMemory>
     ensures { IfOk result (λ is. map item_term is ≡ spec.items_for form.Overruled) }
 {
-    let first = soft(alloc, 1)?;
-    let later = soft(alloc, 2)?;
-    both(alloc, first, later)
+    let (first, later) = both(soft(alloc, 1), soft(alloc, 2))?;
+    listed(alloc, [first, later])
 }
 
 fn sum(alloc: Global) -> Result<Items<TItem>, NoMemory>
@@ -222,8 +209,8 @@ fn zeros(alloc: Global, count: usize) -> Result<Items<u64>, NoMemory>
     Ok(Items::from_vec(numbers))
 }
 
-fn state(alloc: Global) -> Result<Assign, NoMemory>
-    ensures { IfOk result (λ state. state ≡ spec.first_state) }
+fn values(alloc: Global) -> Result<Items<Items<u64>>, NoMemory>
+    ensures { IfOk result (λ values. values ≡ spec.first_state.values) }
 {
     let mut values = Items::<Items<u64>>::new(alloc);
     values.push(Items::from_slice(alloc, &[0])?)?;
@@ -231,9 +218,16 @@ fn state(alloc: Global) -> Result<Assign, NoMemory>
     values.push(zeros(alloc, 200)?)?;
     values.push(Items::from_slice(alloc, &[0])?)?;
     values.push(Items::<u64>::new(alloc))?;
+    Ok(values)
+}
+
+fn state(alloc: Global) -> Result<Assign, NoMemory>
+    ensures { IfOk result (λ state. state ≡ spec.first_state) }
+{
+    let (values, sizes) = both(values(alloc), copied(alloc, &[1, 1, 200, 1, 0]))?;
     Ok(Assign {
         values,
-        sizes: Items::from_slice(alloc, &[1, 1, 200, 1, 0])?,
+        sizes,
         script: Items::<u64>::new(alloc),
     })
 }
@@ -241,13 +235,17 @@ fn state(alloc: Global) -> Result<Assign, NoMemory>
 fn framed(alloc: Global, form: Form) -> Result<Frame, NoMemory>
     ensures { IfOk result (λ frame. frame_term frame ≡ spec.frame_for form) }
 {
+    let random = copied(alloc, &[true, true, false, is_cyclic(form), is_sized(form)]);
+    let free_size = copied(alloc, &[false, false, false, false, is_sized(form)]);
+    let parts = both(class(alloc), both(state(alloc), items(alloc, form)));
+    let ((random, free_size), (class, (state, items))) = both(both(random, free_size), parts)?;
     Ok(Frame {
-        class: class(alloc)?,
+        class,
         enums: Items::<EnumType>::new(alloc),
-        state: state(alloc)?,
-        random: Items::from_slice(alloc, &[true, true, false, is_cyclic(form), is_sized(form)])?,
-        free_size: Items::from_slice(alloc, &[false, false, false, false, is_sized(form)])?,
-        items: items(alloc, form)?,
+        state,
+        random,
+        free_size,
+        items,
     })
 }
 
@@ -263,11 +261,11 @@ pub(crate) fn sample(alloc: Global, form: Form) -> Result<Frame, NoMemory>
 fn design(alloc: Global) -> Result<Design, NoMemory>
     ensures { IfOk result (λ d. declared_classes d.vars ≡ 0 ∷ []) }
 {
-    let mut vars = Items::<TVar>::new(alloc);
-    vars.push(TVar {
+    let var = TVar {
         name: Text::from_vec(Vec::new(alloc)),
         kind: VarKind::Object(0),
-    })?;
+    };
+    let vars = listed(alloc, [var])?;
     Ok(Design {
         enums: Items::<EnumType>::new(alloc),
         classes: Items::<TClass>::new(alloc),
@@ -286,11 +284,32 @@ fn made(alloc: Global, design: &Design, class: &FlatClass) -> Result<World, NoMe
     Ok(world)
 }
 
+fn made_over(
+    alloc: Global,
+    design: &Result<Design, NoMemory>,
+    class: &Result<FlatClass, NoMemory>,
+) -> Result<World, NoMemory>
+    requires vars { IfOk design.now (λ d. declared_classes d.vars ≡ 0 ∷ []) }
+    requires class { IfOk class.now (λ c. flat_term c ≡ spec.sample_class) }
+    ensures { IfOk result (λ w. IsMade w 0) }
+{
+    match design {
+        Ok(design) => match class {
+            Ok(class) => made(alloc, design, class),
+            Err(refused) => Err(*refused),
+        },
+        Err(refused) => Err(*refused),
+    }
+}
+
 /// A world in which the variable 0 has an object.
 pub(crate) fn world(alloc: Global) -> Result<World, NoMemory>
     ensures { IfOk result (λ w. IsMade w 0) }
 {
-    let design = design(alloc)?;
-    let class = class(alloc)?;
-    made(alloc, &design, &class)
+    let design = design(alloc);
+    let class = class(alloc);
+    let world = made_over(alloc, &design, &class);
+    let_go(design);
+    let_go(class);
+    world
 }

@@ -1,17 +1,19 @@
 // What the calls of a script print: soft items by priority (IEEE 1800-2017, 18.5.14), cyclic values (18.4.2) and sizes of arrays (18.4 and 18.5.8).
 
-use crate::held::joined;
-use crate::reading::{Printed, read_back};
-use crate::running::{options, run};
-use std::alloc::Global;
-use svr_edge::MemSink;
+ghost use Rattle.svr_run.specs.CanRun.{AreAllowed};
 
-/// A class `P`, the statements behind `P p = new;`, the lines that the calls print, and how many proofs stand behind the lines.
-struct Script {
-    class: &'static [u8],
-    stmts: &'static [u8],
-    lines: &'static [u8],
-    proofs: u64,
+use crate::held::{joined, let_go};
+use crate::reading::Printed;
+use crate::running::{of_one_step, options, printed_of};
+use std::alloc::Global;
+use svr_phase::Options;
+
+/// A class `P`, the statements behind `P p = new;`, the lines that the calls print, and how many proofs and logs stand behind the lines.
+pub(crate) struct Script {
+    pub(crate) class: &'static [u8],
+    pub(crate) stmts: &'static [u8],
+    pub(crate) lines: &'static [u8],
+    pub(crate) proofs: u64,
 }
 
 /// The text of a script with one object.
@@ -24,24 +26,31 @@ pub(crate) fn text_of(alloc: Global, class: &[u8], stmts: &[u8]) -> Vec<u8> {
     text
 }
 
+/// What a script with one object prints, read back.
+pub(crate) fn printed_by(alloc: Global, class: &[u8], stmts: &[u8], opts: Options) -> Printed
+    requires allowed { AreAllowed opts }
+{
+    let text = text_of(alloc, class, stmts);
+    let printed = printed_of(alloc, text.as_slice(), opts);
+    let_go(text);
+    printed
+}
+
 fn is_printed(printed: &Printed, script: &Script) -> bool {
-    printed.lines.as_slice() == script.lines
+    printed.ended
+        && printed.lines.as_slice() == script.lines
         && printed.proofs == script.proofs
         && printed.accepted == script.proofs
 }
 
 /// Whether a script prints its lines, with so many proofs, each of which the checker accepts.
-fn prints(alloc: Global, script: &Script, seed: u64) -> bool {
-    let text = text_of(alloc, script.class, script.stmts);
-    match MemSink::new(alloc, 4_000_000, Vec::new(alloc)) {
-        Ok(sink) => {
-            let mut out = sink;
-            let ended = run(alloc, &text, options(seed, true), &mut out);
-            let printed = read_back(alloc, out.bytes());
-            ended && is_printed(&printed, script)
-        }
-        Err(_) => false,
-    }
+fn prints(alloc: Global, script: &Script, opts: Options) -> bool
+    requires { AreAllowed opts }
+{
+    let printed = printed_by(alloc, script.class, script.stmts, opts);
+    let is_so = is_printed(&printed, script);
+    let_go(printed);
+    is_so
 }
 
 // Rank 1 is the last soft item: one that stands later has priority, an in-line one over those of the class, one of a class over those that it inherits.
@@ -125,8 +134,8 @@ const SOFT: [Script; 12] = [
 
 #[test]
 fn soft_items_are_kept_by_priority(rt: HostRuntime) {
-    for (i, script) in SOFT.iter().enumerate() {
-        assert!(rt; prints(rt.alloc(), script, 1), "soft {i}");
+    for script in &SOFT {
+        assert!(rt; prints(rt.alloc(), script, options(1, true)));
     }
 }
 
@@ -162,8 +171,8 @@ const CYCLIC: [Script; 4] = [
 
 #[test]
 fn cyclic_values_are_chosen_first(rt: HostRuntime) {
-    for (i, script) in CYCLIC.iter().enumerate() {
-        assert!(rt; prints(rt.alloc(), script, 2), "cyclic {i}");
+    for script in &CYCLIC {
+        assert!(rt; prints(rt.alloc(), script, options(2, true)));
     }
 }
 
@@ -237,7 +246,21 @@ const SIZES: [Script; 10] = [
 
 #[test]
 fn sizes_are_chosen_within_the_cap(rt: HostRuntime) {
-    for (i, script) in SIZES.iter().enumerate() {
-        assert!(rt; prints(rt.alloc(), script, 3), "sizes {i}");
+    for script in &SIZES {
+        assert!(rt; prints(rt.alloc(), script, options(3, true)));
     }
+}
+
+/// Three bits that are to differ from each other, which one step of the search does not show.
+pub(crate) const GIVEN_UP: Script = Script {
+    class: b"class P; rand bit a, b, c; constraint u { a != b; b != c; a != c; } endclass",
+    stmts: b"p.randomize();",
+    lines: b"#1 p gaveup hard\n",
+    proofs: 1,
+};
+
+// Its log, which has no goal, is accepted.
+#[test]
+fn a_log_is_read_back(rt: HostRuntime) {
+    assert!(rt; prints(rt.alloc(), &GIVEN_UP, of_one_step()));
 }

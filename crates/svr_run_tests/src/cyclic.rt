@@ -1,11 +1,10 @@
 // The order of cyclic values (IEEE 1800-2017, 18.4.2).
 
-use crate::calls::text_of;
-use crate::held::added;
-use crate::reading::{Told, read_back};
-use crate::running::{options, run};
+use crate::calls::printed_by;
+use crate::held::{added, let_go};
+use crate::reading::{Printed, Told};
+use crate::running::options;
 use std::alloc::Global;
-use svr_edge::MemSink;
 
 /// A class with one cyclic property, its calls, how many values fit, and a number above all of them.
 struct Cycle {
@@ -63,8 +62,7 @@ fn is_new(rounds: &mut Vec<usize>, value: u64, round: usize) -> bool {
 }
 
 /// Whether the calls go through so many values before one repeats, and just the first call of each further round says that a cycle begins.
-fn go_round(alloc: Global, calls: &[Told], values: usize, above: usize) -> bool {
-    let mut rounds = zeros(alloc, above);
+fn goes_round(rounds: &mut Vec<usize>, calls: &[Told], values: usize) -> bool {
     let mut round: usize = 1;
     let mut place: usize = 0;
     for call in calls {
@@ -75,30 +73,31 @@ fn go_round(alloc: Global, calls: &[Told], values: usize, above: usize) -> bool 
         }
         place = place.wrapping_add(1);
         let says_so = call.behind == 1;
-        if !is_new(&mut rounds, call.value, round) || says_so != is_turn {
+        if !is_new(rounds, call.value, round) || says_so != is_turn {
             return false;
         }
     }
     true
 }
 
+fn is_round(alloc: Global, printed: &Printed, cycle: &Cycle) -> bool {
+    let calls = printed.calls.as_slice();
+    let mut rounds = zeros(alloc, cycle.above);
+    let goes_round = goes_round(&mut rounds, calls, cycle.values);
+    let_go(rounds);
+    printed.ended && calls.len() == cycle.calls && goes_round
+}
+
 fn is_cycle(alloc: Global, cycle: &Cycle, seed: u64) -> bool {
-    let text = text_of(alloc, cycle.class, cycle.stmts);
-    match MemSink::new(alloc, 100_000, Vec::new(alloc)) {
-        Ok(sink) => {
-            let mut out = sink;
-            let ended = run(alloc, &text, options(seed, false), &mut out);
-            let printed = read_back(alloc, out.bytes());
-            let calls = printed.calls.as_slice();
-            ended && calls.len() == cycle.calls && go_round(alloc, calls, cycle.values, cycle.above)
-        }
-        Err(_) => false,
-    }
+    let printed = printed_by(alloc, cycle.class, cycle.stmts, options(seed, false));
+    let is_so = is_round(alloc, &printed, cycle);
+    let_go(printed);
+    is_so
 }
 
 #[test]
 fn each_value_comes_before_one_repeats(rt: HostRuntime) {
-    for (i, cycle) in CYCLES.iter().enumerate() {
-        assert!(rt; is_cycle(rt.alloc(), cycle, 4), "cycle {i}");
+    for cycle in &CYCLES {
+        assert!(rt; is_cycle(rt.alloc(), cycle, 4));
     }
 }

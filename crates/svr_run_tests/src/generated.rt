@@ -1,11 +1,9 @@
 // Scripts that are made by a linear congruence: each proof that they print is accepted.
 
 use crate::calls::text_of;
-use crate::held::joined;
-use crate::reading::{Printed, read_back};
-use crate::running::{options, run};
+use crate::held::{joined, let_go};
+use crate::running::{options, printed_of};
 use std::alloc::Global;
-use svr_edge::MemSink;
 
 /// What an item compares with a number.
 const LEFT: [&[u8]; 12] = [
@@ -83,32 +81,21 @@ fn script(alloc: Global, number: u64) -> Vec<u8> {
     );
     let _last = items(&mut stmts, state);
     joined(&mut stmts, b"}; p.randomize();");
-    text_of(alloc, &class, &stmts)
+    let text = text_of(alloc, &class, &stmts);
+    let_go(class);
+    let_go(stmts);
+    text
 }
 
-/// What a made script prints, read back. Nothing where its run does not end.
-fn read_of(alloc: Global, number: u64) -> Option<Printed> {
-    let text = script(alloc, number);
-    match MemSink::new(alloc, 4_000_000, Vec::new(alloc)) {
-        Ok(sink) => {
-            let mut out = sink;
-            if run(alloc, &text, options(number, true), &mut out) {
-                Some(read_back(alloc, out.bytes()))
-            } else {
-                None
-            }
-        }
-        Err(_) => None,
-    }
-}
-
-/// How many proofs a script prints. Nothing where one is refused, or the run does not end.
+/// How many proofs a made script prints. Nothing where one is refused, or the run does not end.
 fn proofs_of(alloc: Global, number: u64) -> Option<u64> {
-    match read_of(alloc, number) {
-        Some(printed) if printed.accepted == printed.proofs => Some(printed.proofs),
-        Some(_) => None,
-        None => None,
-    }
+    let text = script(alloc, number);
+    let printed = printed_of(alloc, text.as_slice(), options(number, true));
+    let are_accepted = printed.ended && printed.accepted == printed.proofs;
+    let proofs = printed.proofs;
+    let_go(printed);
+    let_go(text);
+    if are_accepted { Some(proofs) } else { None }
 }
 
 /// Whether all proofs of these scripts are accepted, and there are some.

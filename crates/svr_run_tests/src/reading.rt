@@ -1,16 +1,17 @@
 // The printed text of a run, read back: the lines of its calls, and its proofs, each of which the checker judges.
 
-use crate::held::added;
+use crate::held::{added, let_go};
 use std::alloc::Global;
 use svr_chain::{Clause, Cnf, Link, Lit, Refutation, Step, Verdict, check};
 
-/// What was printed: the lines of calls, the calls that print one value each, how many proofs there are, and how many of them the checker accepts.
+/// What was printed: the lines of calls, the calls that print one value each, how many proofs and logs there are, how many of them the checker accepts, and whether the run came to its end.
 #[derive(Drop)]
 pub(crate) struct Printed {
     pub(crate) lines: Vec<u8>,
     pub(crate) calls: Vec<Told>,
     pub(crate) proofs: u64,
     pub(crate) accepted: u64,
+    pub(crate) ended: bool,
 }
 
 /// The first value on the line of a call, and how many words stand behind it.
@@ -20,12 +21,13 @@ pub(crate) struct Told {
     pub(crate) behind: usize,
 }
 
-/// A proof as it is read.
+/// A proof as it is read, or the log of a question that was given up, which has no goal.
 #[derive(Drop)]
 struct Proof {
     cnf: Cnf,
     assume: Vec<Lit>,
     log: Refutation,
+    is_log: bool,
 }
 
 /// The line that is read: its first byte, which says what it is, its words as numbers with a sign, and the last word so far.
@@ -91,30 +93,49 @@ fn new_proof(alloc: Global) -> Proof {
             steps: Vec::new(alloc),
             goal: None,
         },
+        is_log: false,
     }
+}
+
+/// Begins a proof anew.
+fn empty(proof: &mut Proof) {
+    proof.cnf.clauses.clear();
+    proof.assume.clear();
+    proof.log.steps.clear();
+    proof.log.goal = None;
+    proof.is_log = false;
 }
 
 /// The literals of a line that ends with 0.
-fn lits_of(alloc: Global, words: &[Lit]) -> Vec<Lit> {
-    let mut lits = Vec::new(alloc);
+fn add_lits(words: &[Lit], lits: &mut Vec<Lit>) {
     for word in words {
         if word.var != 0 {
-            added(&mut lits, *word);
+            added(lits, *word);
         }
     }
-    lits
+}
+
+/// The literals of a line in the place of those that were there.
+fn set_lits(words: &[Lit], lits: &mut Vec<Lit>) {
+    lits.clear();
+    add_lits(words, lits);
+}
+
+fn clause_of(alloc: Global, words: &[Lit]) -> Clause {
+    let mut lits = Vec::new(alloc);
+    add_lits(words, &mut lits);
+    Clause::new(lits)
 }
 
 /// The links of a step: pairs of a pivot and the number of a clause, and 0 behind them.
-fn links_of(alloc: Global, words: &[Lit]) -> Vec<Link> {
-    let mut links = Vec::new(alloc);
+fn add_links(words: &[Lit], links: &mut Vec<Link>) {
     let mut pivot: Option<Lit> = None;
     for word in words {
         match pivot {
             None => pivot = Some(*word),
             Some(lit) => {
                 added(
-                    &mut links,
+                    links,
                     Link {
                         pivot: lit,
                         clause: word.var,
@@ -124,20 +145,18 @@ fn links_of(alloc: Global, words: &[Lit]) -> Vec<Link> {
             }
         }
     }
-    links
 }
 
 fn step_of(alloc: Global, words: &[Lit]) -> Step {
-    match words {
-        [first, rest @ ..] => Step {
-            start: first.var,
-            links: links_of(alloc, rest),
-        },
-        [] => Step {
-            start: 0,
-            links: Vec::new(alloc),
-        },
-    }
+    let mut links = Vec::new(alloc);
+    let start = match words {
+        [first, rest @ ..] => {
+            add_links(rest, &mut links);
+            first.var
+        }
+        [] => 0,
+    };
+    Step { start, links }
 }
 
 fn goal_of(words: &[Lit]) -> Option<u64> {
@@ -147,9 +166,9 @@ fn goal_of(words: &[Lit]) -> Option<u64> {
     }
 }
 
-/// Whether a proof has a goal, and the checker accepts it.
+/// Whether a proof has a goal, and a log has none, and the checker accepts it.
 fn is_accepted(alloc: Global, proof: &Proof) -> bool {
-    if proof.log.goal.is_none() {
+    if proof.log.goal.is_none() != proof.is_log {
         return false;
     }
     match check(alloc, &proof.cnf, proof.assume.as_slice(), &proof.log) {
@@ -186,11 +205,12 @@ fn take_call(printed: &mut Printed, words: &[Lit]) {
 /// A line of a proof. It begins with `p` and ends with `e`.
 fn take_line(alloc: Global, proof: &mut Proof, kind: u8, words: &[Lit]) {
     match kind {
-        b'p' => *proof = new_proof(alloc),
-        b'a' => proof.assume = lits_of(alloc, words),
-        b'c' => added(&mut proof.cnf.clauses, Clause::new(lits_of(alloc, words))),
+        b'p' => empty(proof),
+        b'a' => set_lits(words, &mut proof.assume),
+        b'c' => added(&mut proof.cnf.clauses, clause_of(alloc, words)),
         b's' => added(&mut proof.log.steps, step_of(alloc, words)),
         b'g' => proof.log.goal = goal_of(words),
+        b'f' => proof.is_log = true,
         _ => {}
     }
 }
@@ -203,36 +223,52 @@ fn end_line(alloc: Global, printed: &mut Printed, proof: &mut Proof, kind: u8, w
     }
 }
 
+/// Begins a line anew.
+fn begin_line(line: &mut Line) {
+    line.kind = 0;
+    line.words.clear();
+    line.word = None;
+}
+
+/// Takes one byte of a text.
+fn take(alloc: Global, printed: &mut Printed, proof: &mut Proof, line: &mut Line, byte: u8) {
+    if byte == b'\n' {
+        end_word(line);
+        end_line(alloc, printed, proof, line.kind, line.words.as_slice());
+    } else {
+        take_byte(line, byte);
+    }
+    if line.kind == b'#' {
+        added(&mut printed.lines, byte);
+    }
+    if byte == b'\n' {
+        begin_line(line);
+    }
+}
+
 /// What a text says that was printed.
-pub(crate) fn read_back(alloc: Global, text: &[u8]) -> Printed {
+pub(crate) fn read_back(alloc: Global, text: &[u8], ended: bool) -> Printed {
     let mut printed = Printed {
         lines: Vec::new(alloc),
         calls: Vec::new(alloc),
         proofs: 0,
         accepted: 0,
+        ended,
     };
     let mut proof = new_proof(alloc);
     let mut line = new_line(alloc);
     for byte in text {
-        if *byte == b'\n' {
-            end_word(&mut line);
-            end_line(
-                alloc,
-                &mut printed,
-                &mut proof,
-                line.kind,
-                line.words.as_slice(),
-            );
-            if line.kind == b'#' {
-                added(&mut printed.lines, *byte);
-            }
-            line = new_line(alloc);
-        } else {
-            take_byte(&mut line, *byte);
-            if line.kind == b'#' {
-                added(&mut printed.lines, *byte);
-            }
-        }
+        take(alloc, &mut printed, &mut proof, &mut line, *byte);
     }
+    let_go(proof);
+    let_go(line);
     printed
+}
+
+/// How many proofs a text has, and how many of them are accepted.
+pub(crate) fn counts_of(alloc: Global, text: &[u8]) -> (u64, u64) {
+    let printed = read_back(alloc, text, true);
+    let counts = (printed.proofs, printed.accepted);
+    let_go(printed);
+    counts
 }

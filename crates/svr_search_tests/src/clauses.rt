@@ -1,6 +1,6 @@
 //! Literals and clauses of numbers: a literal is its variable, which is negative where the literal is a negation.
 
-ghost use Rattle.std.specs.Prelude.{◌≡◌, ◌≤◌, true, All, IfOk};
+ghost use Rattle.std.specs.Prelude.{◌≡◌, ◌≤◌, true, All, IfOk, OnOk, length};
 ghost use Rattle.svr_chain.specs.Clauses.{IsWithin, AreWithin};
 
 use std::alloc::{AllocError, Global};
@@ -28,6 +28,24 @@ pub(crate) fn lits(alloc: Global, vars: u64, numbers: &[i64]) -> Result<Vec<Lit>
     Ok(lits)
 }
 
+/// The clauses of a table are added to a list.
+fn add_clauses(
+    alloc: Global,
+    vars: u64,
+    table: &[&[i64]],
+    clauses: &mut Vec<Clause>,
+) -> Result<(), AllocError>
+    requires vars { 1 ≤ vars }
+    requires within { All (AreWithin vars) clauses.old.items }
+    ensures { OnOk result (All (AreWithin vars) clauses.new.items) }
+{
+    for numbers in table {
+        let lits = lits(alloc, vars, numbers)?;
+        clauses.push(Clause::new(lits))?;
+    }
+    Ok(())
+}
+
 /// Clauses over so many variables.
 pub(crate) fn cnf(alloc: Global, vars: u64, table: &[&[i64]]) -> Result<Cnf, AllocError>
     requires { 1 ≤ vars }
@@ -35,10 +53,21 @@ pub(crate) fn cnf(alloc: Global, vars: u64, table: &[&[i64]]) -> Result<Cnf, All
     ensures within { IfOk result (λ c. All (AreWithin vars) c.clauses.items) }
 {
     let mut clauses = Vec::new(alloc);
-    for numbers in table {
-        clauses.push(Clause::new(lits(alloc, vars, numbers)?))?;
-    }
+    add_clauses(alloc, vars, table, &mut clauses)?;
     Ok(Cnf { vars, clauses })
+}
+
+/// Nothing is preferred.
+const NO_WISHES: [bool; 64] = [false; 64];
+
+/// For so many variables nothing is preferred.
+pub(crate) fn no_wishes(vars: u64) -> &'static [bool]
+    requires { vars ≤ 64 }
+    ensures { length result.now ≡ vars }
+{
+    let all: &'static [bool] = &NO_WISHES;
+    let (wishes, _rest) = all.split_at(vars as usize);
+    wishes
 }
 
 pub(crate) fn are_within(vars: u64, lits: &[Lit]) -> bool

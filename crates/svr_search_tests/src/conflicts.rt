@@ -1,6 +1,6 @@
 // A conflict at the first level.
 
-ghost use Rattle.std.specs.Prelude.{◌≡◌, [], IfSome};
+ghost use Rattle.std.specs.Prelude.{◌≡◌, [], IfOk, IfSome};
 ghost use Rattle.svr_trail.specs.Trail.{IsFault};
 
 use crate::clauses::{cnf, lits};
@@ -8,7 +8,6 @@ use crate::memory::let_go;
 use std::alloc::Global;
 use std::marker::Brand;
 use std::sync::ledger::{Blank, Ledger};
-use std::test::Fail;
 use svr_cdcl::{NoMemory, Search};
 use svr_chain::Clause;
 use svr_watch::Steps;
@@ -33,39 +32,63 @@ fn propagate(search: &mut Search) -> Option<u64>
     count_visits::<Brand>(Blank::new(1), search)
 }
 
-/// How many literals explain that the clauses conflict, nothing where they do not.
-fn explained(search: &mut Search) -> Result<Option<usize>, NoMemory> {
+/// Whether no literal is needed to explain that the clauses conflict.
+fn is_explained(search: &mut Search) -> bool {
     match propagate(search) {
         Some(number) => {
-            let explained = search.explain(number, None)?;
-            let count = explained.lits.lits().len();
+            let explained = search.explain(number, None);
+            let is_so = match &explained {
+                Ok(explained) => explained.lits.lits().is_empty(),
+                Err(_) => false,
+            };
             let_go(explained);
-            Ok(Some(count))
+            is_so
         }
-        None => Ok(None),
+        None => false,
     }
 }
 
+/// Whether the negation of 1 is learned as the second clause.
+fn is_learned(alloc: Global, search: &mut Search) -> Result<bool, NoMemory>
+    requires vars { search.old.vars ≡ 1 }
+    requires level { search.old.ends ≡ [] }
+{
+    let number = search.learn(Clause::new(lits(alloc, 1, &[-1])?))?;
+    Ok(number == 2)
+}
+
 /// Whether nothing conflicts, until the negation of 1 is learned as the second clause.
-fn conflicts(alloc: Global, search: &mut Search) -> Result<bool, NoMemory>
+fn conflicts(alloc: Global, search: &mut Search) -> bool
     requires vars { search.old.vars ≡ 1 }
     requires level { search.old.ends ≡ [] }
 {
     if propagate(search).is_some() || search.level() != 0 {
-        return Ok(false);
+        return false;
     }
-    let number = search.learn(Clause::new(lits(alloc, 1, &[-1])?))?;
-    Ok(number == 2 && explained(search)? == Some(0))
+    match is_learned(alloc, search) {
+        Ok(is_learned) => is_learned && is_explained(search),
+        Err(_) => false,
+    }
+}
+
+/// A search over the clause of 1 alone.
+fn search_of(alloc: Global) -> Result<Search, NoMemory>
+    ensures vars { IfOk result (λ search. search.vars ≡ 1) }
+    ensures level { IfOk result (λ search. search.ends ≡ []) }
+{
+    let cnf = cnf(alloc, 1, &[&[1]])?;
+    let search = Search::new(alloc, &cnf);
+    let_go(cnf);
+    search
 }
 
 #[test]
-fn explains_a_conflict_at_level_0(rt: HostRuntime) -> Result<(), Fail> {
-    let cnf = cnf(rt.alloc(), 1, &[&[1]])?;
-    let search = Search::new(rt.alloc(), &cnf);
-    let_go(cnf);
-    let mut search = search?;
-    let found = conflicts(rt.alloc(), &mut search);
-    let_go(search);
-    assert!(rt; found?);
-    Ok(())
+fn explains_a_conflict_at_level_0(rt: HostRuntime) {
+    let mut made = search_of(rt.alloc());
+    let found = match &mut made {
+        Ok(search) => conflicts(rt.alloc(), search),
+        Err(_) => false,
+    };
+    let_go(made);
+    assert!(rt; found);
 }

@@ -1,34 +1,24 @@
-// Want of memory, and values that are let go.
+// Values that are let go, lists that grow, and two values that may be missing.
 
-use std::alloc::{AllocError, AllocFailed};
+ghost use Rattle.std.specs.Prelude.{◌≡◌, Ok, IfOk};
 
-/// An allocation was refused.
-#[derive(Debug, Drop)]
-pub(crate) struct NoMemory;
-
-impl From<AllocError> for NoMemory {
-    fn from(_error: AllocError) -> NoMemory {
-        NoMemory
-    }
-}
-
-impl<T: Drop> From<AllocFailed<T>> for NoMemory {
-    fn from(_error: AllocFailed<T>) -> NoMemory {
-        NoMemory
-    }
-}
-
-impl From<svr_gate::NoMemory> for NoMemory {
-    fn from(_error: svr_gate::NoMemory) -> NoMemory {
-        NoMemory
-    }
-}
-
-impl From<svr_query::NoMemory> for NoMemory {
-    fn from(_error: svr_query::NoMemory) -> NoMemory {
-        NoMemory
-    }
-}
+use svr_gate::NoMemory;
 
 /// Lets a value go: the drop of a type parameter is proved once, and a caller that hands on what it holds has none of its own.
 pub(crate) fn let_go<T: Drop>(_held: T) {}
+
+/// What a list holds, with one more. Where there is no memory it is left out, and the list is another.
+pub(crate) fn added<T: Drop>(list: &mut Vec<T>, item: T) {
+    let _unmet = list.push(item).is_err();
+}
+
+/// Both values, where both are there.
+pub(crate) fn both<T: Drop, U: Drop>(
+    first: Result<T, NoMemory>,
+    second: Result<U, NoMemory>,
+) -> Result<(T, U), NoMemory>
+    ensures first { IfOk result (λ values. first ≡ Ok values.0) }
+    ensures second { IfOk result (λ values. second ≡ Ok values.1) }
+{
+    Ok((first?, second?))
+}

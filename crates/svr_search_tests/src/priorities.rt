@@ -1,13 +1,13 @@
 //! The pass over small questions.
 
-ghost use Rattle.std.specs.Prelude.{◌≡◌, ◌<◌, ◌^◌, ◌++◌, true, false, length, IfOk};
+ghost use Rattle.std.specs.Prelude.{◌≡◌, ◌<◌, ◌≤◌, ◌^◌, ◌++◌, true, false, length, IfOk};
 ghost use Rattle.svr_chain.specs.Clauses.{AreWithin, is_tautology};
 
-use crate::clauses::{are_within, cnf, lits};
+use crate::clauses::{are_within, lits, no_wishes};
 use crate::memory::let_go;
+use crate::questions::solver_of;
 use std::alloc::{AllocError, Global};
-use std::test::Fail;
-use svr_chain::{Lit, have_opposites};
+use svr_chain::{Lit, Refutation, have_opposites};
 use svr_query::Solver;
 use svr_soft::{NoMemory, PassEnd, pass};
 
@@ -115,21 +115,43 @@ const FORTY: Case = Case {
     ],
 };
 
-/// The kept ranks, 0 and the dropped ranks; 100 where the base is refuted, and 200 where the budget is spent.
-fn told(alloc: Global, end: &PassEnd) -> Result<Vec<u32>, AllocError> {
-    let mut told = Vec::new(alloc);
-    match end {
-        PassEnd::Done { kept, dropped, .. } => {
-            told.extend_from_slice(kept.as_slice())?;
-            told.push(0)?;
-            for (rank, _log) in dropped {
-                told.push(*rank)?;
-            }
-        }
-        PassEnd::BaseRefuted(_) => told.push(100)?,
-        PassEnd::Spent { .. } => told.push(200)?,
+/// The number at a place, and one that is told nowhere past the end.
+fn number_at(told: &[u32], at: usize) -> u32 {
+    match told.get(at) {
+        Some(number) => *number,
+        None => u32::MAX,
     }
-    Ok(told)
+}
+
+/// Whether the kept ranks, 0 and the dropped ranks are told.
+fn is_done(kept: &[u32], dropped: &[(u32, Refutation)], told: &[u32]) -> bool {
+    let mut at: usize = 0;
+    for rank in kept {
+        if number_at(told, at) != *rank {
+            return false;
+        }
+        at = at.wrapping_add(1);
+    }
+    if number_at(told, at) != 0 {
+        return false;
+    }
+    for (rank, _log) in dropped {
+        at = at.wrapping_add(1);
+        if number_at(told, at) != *rank {
+            return false;
+        }
+    }
+    told.len() == at.wrapping_add(1)
+}
+
+/// Whether an end is told: the kept ranks, 0 and the dropped ranks; 100 where the base is refuted, and 200 where the budget is spent.
+fn is_end(end: &Result<PassEnd, NoMemory>, told: &[u32]) -> bool {
+    match end {
+        Ok(PassEnd::Done { kept, dropped, .. }) => is_done(kept, dropped, told),
+        Ok(PassEnd::BaseRefuted(_)) => told.len() == 1 && number_at(told, 0) == 100,
+        Ok(PassEnd::Spent { .. }) => told.len() == 1 && number_at(told, 0) == 200,
+        Err(_) => false,
+    }
 }
 
 /// Whether literals are such as the pass asks for.
@@ -143,46 +165,71 @@ fn are_askable(alloc: Global, vars: u64, base: &[Lit], soft: &[Lit]) -> Result<b
     Ok(are_within(vars, &all) && !have_opposites(&all) && soft.len() <= 1000)
 }
 
-/// What the pass over these literals tells, nothing where they are not as it asks.
-fn pass_told(
+/// Whether the pass over these literals comes to what is told, where they are as it asks.
+fn passes(
     alloc: Global,
     solver: &mut Solver,
     base: &[Lit],
     soft: &[Lit],
     prefer: &[bool],
-) -> Result<Vec<u32>, NoMemory>
+    told: &[u32],
+) -> Result<bool, NoMemory>
     requires { length prefer.now ≡ solver.old.vars }
 {
     if !are_askable(alloc, prefer.len() as u64, base, soft)? {
-        return Ok(Vec::new(alloc));
+        return Ok(false);
     }
-    let end = pass(alloc, solver, base, soft, prefer, 10)?;
-    let told = told(alloc, &end);
+    let end = pass(alloc, solver, base, soft, prefer, 10);
+    let is_so = is_end(&end, told);
     let_go(end);
-    Ok(told?)
+    Ok(is_so)
 }
 
-fn is_told(alloc: Global, case: &Case) -> Result<bool, NoMemory> {
-    let vars = case.vars.max(1);
-    let prefer = vec![in alloc; false; vars as usize]?;
-    let base = lits(alloc, vars, case.base)?;
-    let soft = lits(alloc, vars, case.soft)?;
-    let mut solver = Solver::new(alloc, cnf(alloc, vars, case.clauses)?)?;
-    let told = pass_told(alloc, &mut solver, &base, &soft, &prefer);
-    let_go(solver);
-    Ok(told?.as_slice() == case.told)
-}
-
-#[test]
-fn keeps_the_first_that_can_hold(rt: HostRuntime) -> Result<(), Fail> {
-    for case in &SMALL {
-        assert!(rt; is_told(rt.alloc(), case)?);
+fn is_told_of(alloc: Global, solver: &mut Solver, vars: u64, case: &Case) -> bool
+    requires some { 1 ≤ vars }
+    requires few { vars ≤ 64 }
+    requires vars { solver.old.vars ≡ vars }
+{
+    let base = lits(alloc, vars, case.base);
+    let soft = lits(alloc, vars, case.soft);
+    let prefer = no_wishes(vars);
+    let is_so = match &base {
+        Ok(base) => match &soft {
+            Ok(soft) => passes(alloc, solver, base, soft, prefer, case.told),
+            Err(_) => Ok(false),
+        },
+        Err(_) => Ok(false),
+    };
+    let_go(base);
+    let_go(soft);
+    match is_so {
+        Ok(is_so) => is_so,
+        Err(_) => false,
     }
-    Ok(())
+}
+
+fn is_told(alloc: Global, case: &Case) -> bool {
+    let vars = case.vars.max(1);
+    if vars > 64 {
+        return false;
+    }
+    let mut made = solver_of(alloc, vars, case.clauses);
+    let is_so = match &mut made {
+        Ok(solver) => is_told_of(alloc, solver, vars, case),
+        Err(_) => false,
+    };
+    let_go(made);
+    is_so
 }
 
 #[test]
-fn keeps_each_second_of_forty(rt: HostRuntime) -> Result<(), Fail> {
-    assert!(rt; is_told(rt.alloc(), &FORTY)?);
-    Ok(())
+fn keeps_the_first_that_can_hold(rt: HostRuntime) {
+    for case in &SMALL {
+        assert!(rt; is_told(rt.alloc(), case));
+    }
+}
+
+#[test]
+fn keeps_each_second_of_forty(rt: HostRuntime) {
+    assert!(rt; is_told(rt.alloc(), &FORTY));
 }

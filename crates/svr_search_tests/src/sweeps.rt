@@ -2,13 +2,12 @@
 
 ghost use Rattle.std.specs.Prelude.{◌≡◌, ◌<◌, ◌≤◌};
 
-use crate::circuit::{Built, Gate, build, values_at};
-use crate::clauses::are_within;
-use crate::memory::{NoMemory, let_go};
+use crate::circuit::{Built, Gate, build, is_whole, settle};
+use crate::clauses::{are_within, no_wishes};
+use crate::memory::{added, let_go};
 use std::alloc::Global;
-use std::test::Fail;
 use svr_chain::{Lit, have_opposites};
-use svr_query::Answer;
+use svr_query::{Answer, NoMemory};
 
 /// A signal with the value that is assumed of it.
 #[derive(Clone, Copy)]
@@ -33,8 +32,7 @@ fn below(state: u64, bound: usize) -> usize
 }
 
 /// Gates with random tables over random earlier signals.
-fn random_gates(alloc: Global, count: u32, size: usize, seed: u64) -> Result<Vec<Gate>, NoMemory> {
-    let mut gates = Vec::new(alloc);
+fn random_gates(gates: &mut Vec<Gate>, count: u32, size: usize, seed: u64) {
     let mut state = next(seed);
     let mut signals = count.max(1) as usize;
     for _ in 0..size {
@@ -44,83 +42,89 @@ fn random_gates(alloc: Global, count: u32, size: usize, seed: u64) -> Result<Vec
         state = next(state);
         let table = below(state, 16) as u16;
         state = next(state);
-        gates.push(Gate {
-            table,
-            first,
-            second,
-        })?;
+        added(
+            gates,
+            Gate {
+                table,
+                first,
+                second,
+            },
+        );
         signals = signals.saturating_add(1);
     }
-    Ok(gates)
+}
+
+/// A gate that tells whether its inputs differ.
+fn differ(first: usize, second: usize) -> Gate {
+    Gate {
+        table: 6,
+        first,
+        second,
+    }
 }
 
 /// The parity of the bits in two orders, and whether the two differ.
-fn parity_gates(alloc: Global, count: u32) -> Result<Vec<Gate>, NoMemory> {
-    let mut gates = Vec::new(alloc);
+fn parity_gates(gates: &mut Vec<Gate>, count: u32) {
     let last = count.max(1) as usize - 1;
     let mut signals = last + 1;
     let mut up = 0;
     let mut down = last;
     for place in 1..count as usize {
-        gates.push(Gate {
-            table: 6,
-            first: up,
-            second: place,
-        })?;
+        added(gates, differ(up, place));
         up = signals;
-        gates.push(Gate {
-            table: 6,
-            first: down,
-            second: last.saturating_sub(place),
-        })?;
+        added(gates, differ(down, last.saturating_sub(place)));
         down = signals.saturating_add(1);
         signals = signals.saturating_add(2);
     }
-    gates.push(Gate {
-        table: 6,
-        first: up,
-        second: down,
-    })?;
-    Ok(gates)
+    added(gates, differ(up, down));
 }
 
 /// The literals that say that the signals have these values.
-fn assumed(alloc: Global, signals: &[Lit], wishes: &[Wish]) -> Result<Vec<Lit>, NoMemory> {
-    let mut lits = Vec::new(alloc);
+fn add_assumed(lits: &mut Vec<Lit>, signals: &[Lit], wishes: &[Wish]) {
     for wish in wishes {
         if let Some(lit) = signals.get(wish.signal) {
-            lits.push(if wish.value { *lit } else { lit.flipped() })?;
+            added(lits, if wish.value { *lit } else { lit.flipped() });
         }
     }
-    Ok(lits)
 }
 
-/// Whether the wishes can be met, as the solver tells within the budget; nothing where it does not tell.
-fn asked(
-    alloc: Global,
-    built: &mut Built,
-    wishes: &[Wish],
-    budget: u64,
-) -> Result<Option<bool>, NoMemory>
+/// Whether the assumed literals can be met; nothing where that is not told.
+fn told(answer: &Result<Answer, NoMemory>) -> Option<bool> {
+    match answer {
+        Ok(Answer::Satisfied(_)) => Some(true),
+        Ok(Answer::Refuted(_)) => Some(false),
+        _ => None,
+    }
+}
+
+/// Whether the literals can be met, as the solver tells within the budget; nothing where it does not tell.
+fn answered(built: &mut Built, assume: &[Lit], budget: u64) -> Option<bool>
     requires { built.old.solver.vars ≡ built.old.vars }
     ensures { built.new.solver.vars ≡ built.new.vars }
 {
-    let assume = assumed(alloc, &built.signals, wishes)?;
-    let prefer = vec![in alloc; false; built.vars as usize]?;
-    if have_opposites(&assume) {
-        return Ok(Some(false));
+    if have_opposites(assume) {
+        return Some(false);
     }
-    if !are_within(built.vars, &assume) || budget == 0 {
-        return Ok(None);
+    if built.vars > 64 || !are_within(built.vars, assume) || budget == 0 {
+        return None;
     }
-    let answer = built.solver.ask(&assume, &prefer, budget)?;
-    let told = match &answer {
-        Answer::Satisfied(_) => Some(true),
-        Answer::Refuted(_) => Some(false),
-        Answer::Spent { .. } => None,
-    };
+    let answer = built.solver.ask(assume, no_wishes(built.vars), budget);
+    let told = told(&answer);
     let_go(answer);
-    Ok(told)
+    told
+}
+
+/// Whether the wishes can be met, as the solver tells within the budget; nothing where it does not tell, or a wish is left out.
+fn asked(alloc: Global, built: &mut Built, wishes: &[Wish], budget: u64) -> Option<bool>
+    requires { built.old.solver.vars ≡ built.old.vars }
+    ensures { built.new.solver.vars ≡ built.new.vars }
+{
+    let mut assume = Vec::new(alloc);
+    add_assumed(&mut assume, &built.signals, wishes);
+    let are_all = assume.len() == wishes.len();
+    let told = answered(built, &assume, budget);
+    let_go(assume);
+    if are_all { told } else { None }
 }
 
 /// Whether the signals have the values of the wishes.
@@ -134,20 +138,28 @@ fn are_met(wishes: &[Wish], values: &[bool]) -> bool {
     true
 }
 
-/// Whether the wishes can be met, as trying all values of the bits tells.
-fn tried(
-    alloc: Global,
+fn is_met_at_one(
+    values: &mut Vec<bool>,
     count: u32,
     gates: &[Gate],
     wishes: &[Wish],
     rows: u64,
-) -> Result<bool, NoMemory> {
+) -> bool {
     for row in 0..rows {
-        if are_met(wishes, &values_at(alloc, count, gates, row)?) {
-            return Ok(true);
+        settle(values, count, gates, row);
+        if are_met(wishes, values.as_slice()) {
+            return true;
         }
     }
-    Ok(false)
+    false
+}
+
+/// Whether the wishes can be met, as trying all values of the bits tells.
+fn tried(alloc: Global, count: u32, gates: &[Gate], wishes: &[Wish], rows: u64) -> bool {
+    let mut values = Vec::new(alloc);
+    let is_met = is_met_at_one(&mut values, count, gates, wishes, rows);
+    let_go(values);
+    is_met
 }
 
 fn wish_from(state: u64, count: usize) -> Wish
@@ -173,6 +185,13 @@ fn three_wishes(state: &mut u64, count: usize) -> [Wish; 3]
     ]
 }
 
+fn is_told(told: Option<bool>, wanted: bool) -> bool {
+    match told {
+        Some(told) => told == wanted,
+        None => false,
+    }
+}
+
 /// Whether the solver answers eight times as trying tells.
 fn agrees(
     alloc: Global,
@@ -181,53 +200,71 @@ fn agrees(
     gates: &[Gate],
     rows: u64,
     state: &mut u64,
-) -> Result<bool, NoMemory>
+) -> bool
     requires { built.old.solver.vars ≡ built.old.vars }
 {
     for _ in 0..8 {
         let wishes = three_wishes(state, gates.len() + 1);
-        let found = asked(alloc, built, &wishes, rows.saturating_mul(2))?;
-        if found != Some(tried(alloc, count, gates, &wishes, rows)?) {
-            return Ok(false);
+        let found = asked(alloc, built, &wishes, rows.saturating_mul(2));
+        if !is_told(found, tried(alloc, count, gates, &wishes, rows)) {
+            return false;
         }
     }
-    Ok(true)
+    true
 }
 
 /// Whether questions over random gates are answered as trying all of so many values of the bits tells.
-fn is_answered(alloc: Global, count: u32, rows: u64, state: &mut u64) -> Result<bool, NoMemory> {
-    let gates = random_gates(alloc, count, 4 * count as usize, count as u64)?;
-    let mut built = build(alloc, count, &gates)?;
-    let found = agrees(alloc, &mut built, count, &gates, rows, state);
-    let_go(built);
+fn is_answered(alloc: Global, count: u32, rows: u64, state: &mut u64) -> bool {
+    let mut gates = Vec::new(alloc);
+    random_gates(&mut gates, count, 4 * count as usize, count as u64);
+    let mut made = build(alloc, count, &gates);
+    let found = match &mut made {
+        Ok(built) => {
+            is_whole(built, count, &gates) && agrees(alloc, built, count, &gates, rows, state)
+        }
+        Err(_) => false,
+    };
+    let_go(made);
+    let_go(gates);
     found
 }
 
 #[test]
-fn answers_random_circuits(rt: HostRuntime) -> Result<(), Fail> {
+fn answers_random_circuits(rt: HostRuntime) {
     let mut state = 1;
     for count in 1..11u32 {
-        assert!(rt; is_answered(rt.alloc(), count, 1 << count, &mut state)?);
+        assert!(rt; is_answered(rt.alloc(), count, 1 << count, &mut state));
     }
-    Ok(())
 }
 
-/// Whether it is refuted that the parities differ.
-fn is_refuted(alloc: Global, count: u32, budget: u64) -> Result<bool, NoMemory> {
-    let mut built = build(alloc, count, &parity_gates(alloc, count)?)?;
+/// Whether it is refuted that the last signal can be true.
+fn is_denied(alloc: Global, built: &mut Built, budget: u64) -> bool
+    requires { built.old.solver.vars ≡ built.old.vars }
+{
     let wish = Wish {
         signal: built.signals.len().saturating_sub(1),
         value: true,
     };
-    let told = asked(alloc, &mut built, &[wish], budget);
-    let_go(built);
-    Ok(told? == Some(false))
+    is_told(asked(alloc, built, &[wish], budget), false)
+}
+
+/// Whether it is refuted that the parities differ.
+fn is_refuted(alloc: Global, count: u32, budget: u64) -> bool {
+    let mut gates = Vec::new(alloc);
+    parity_gates(&mut gates, count);
+    let mut made = build(alloc, count, &gates);
+    let found = match &mut made {
+        Ok(built) => is_whole(built, count, &gates) && is_denied(alloc, built, budget),
+        Err(_) => false,
+    };
+    let_go(made);
+    let_go(gates);
+    found
 }
 
 #[test]
-fn refutes_that_two_parities_differ(rt: HostRuntime) -> Result<(), Fail> {
+fn refutes_that_two_parities_differ(rt: HostRuntime) {
     for count in 1..9u32 {
-        assert!(rt; is_refuted(rt.alloc(), count, 2 << count)?);
+        assert!(rt; is_refuted(rt.alloc(), count, 2 << count));
     }
-    Ok(())
 }
