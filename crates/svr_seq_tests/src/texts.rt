@@ -1,6 +1,6 @@
 // With ample memory texts are read and make their lines, and each kind of fault is told at its token.
 
-use std::alloc::Global;
+use std::alloc::{AllocError, Global};
 use svr_draw::Draws;
 use svr_lex::lex;
 use svr_seq::{Seq, SeqEnd, derive};
@@ -24,7 +24,7 @@ const REFUSED: [(&[u8], u8, u32); 4] = [
 ];
 
 fn made(alloc: Global, text: &[u8]) -> Result<Seq, SeqFault> {
-    if text.len() > 1_000 {
+    if text.len() > 10_000 {
         return Err(SeqFault::NoMemory);
     }
     match lex(alloc, text) {
@@ -53,6 +53,43 @@ fn is_refused(alloc: Global, text: &[u8], wanted: u8, at: u32) -> bool {
         Err(SeqFault::Refused { number, token }) => number == wanted && token == at,
         _ => false,
     }
+}
+
+/// So many `randcase`, each within the one before, around one name.
+fn nested(alloc: Global, depth: u32) -> Result<Vec<u8>, AllocError> {
+    let mut text = Vec::new(alloc);
+    text.extend_from_slice(b"randsequence () a : { ")?;
+    for _ in 0..depth {
+        text.extend_from_slice(b"randcase 1 : ")?;
+    }
+    text.extend_from_slice(b"x; ")?;
+    for _ in 0..depth {
+        text.extend_from_slice(b"endcase ")?;
+    }
+    text.extend_from_slice(b"} ; endsequence")?;
+    Ok(text)
+}
+
+/// Whether 128 of them print the name.
+fn deepest_prints(alloc: Global) -> bool {
+    match nested(alloc, 128) {
+        Ok(text) => prints(alloc, &text, &[390]),
+        Err(_) => false,
+    }
+}
+
+/// Whether of 129 the innermost is refused.
+fn deeper_is_refused(alloc: Global) -> bool {
+    match nested(alloc, 129) {
+        Ok(text) => is_refused(alloc, &text, 39, 390),
+        Err(_) => false,
+    }
+}
+
+#[test]
+fn choices_nest_128_deep(rt: HostRuntime) {
+    assert!(rt; deepest_prints(rt.alloc()));
+    assert!(rt; deeper_is_refused(rt.alloc()));
 }
 
 #[test]
