@@ -256,6 +256,7 @@ impl Arena {
         ensures second { result.1 ≡ lit_at self.now clause 1 }
         ensures known { IsArena self.now }
     {
+        // For the proof: what is known of every arena.
         let _ = self.codes();
         let lits = self.lits(clause);
         (lits[0], lits[1])
@@ -281,6 +282,7 @@ impl Arena {
         requires on { is_in clause (watched self.now lit) ≡ true }
         ensures { IsBefore (watched self.now lit) result clause }
     {
+        // For the proof: what is known of every arena.
         let _ = self.codes();
         let mut before = None;
         let mut at = self.first_watch(lit);

@@ -38,6 +38,7 @@ impl Used {
         }
     }
 
+    /// Whether objects of a class use the name.
     pub fn is_objects(self) -> bool
         ensures { result ≡ spec.is_objects (used_of self) }
     {
@@ -47,6 +48,7 @@ impl Used {
         }
     }
 
+    /// Whether nothing of that name is declared.
     pub fn is_unnamed(self) -> bool
         ensures { result ≡ spec.is_unnamed (used_of self) }
     {

@@ -94,6 +94,7 @@ fn loop_named(loops: &[LoopName<'_>], name: &[u8]) -> Option<Meaning>
 }
 
 impl Region {
+    /// Whether names stand in a statement, outside of any constraint.
     pub fn is_statement(self) -> bool
         ensures { result ≡ spec.is_statement self }
     {
@@ -103,6 +104,7 @@ impl Region {
         }
     }
 
+    /// Whether names stand in an in-line set of a call (18.7).
     pub fn is_in_line(self) -> bool
         ensures { result ≡ spec.is_in_line self }
     {

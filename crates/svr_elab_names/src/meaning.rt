@@ -91,6 +91,7 @@ pub struct Found {
 }
 
 impl Dims {
+    /// Whether it is an array, of whichever kind.
     pub fn is_array(self) -> bool
         ensures { result ≡ spec.is_array self }
     {

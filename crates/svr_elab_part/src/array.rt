@@ -69,6 +69,7 @@ fn sizes_of(dims: Dims) -> Option<(u32, u32)>
     }
 }
 
+/// The size of an array as an expression: that of an own property, or of another object where one is named; none for what has no size of its own.
 pub fn size_tree(
     alloc: Global,
     property: Property,

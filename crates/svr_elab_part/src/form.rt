@@ -9,6 +9,7 @@ use crate::part::{Extent, Form, Root};
 use svr_elab_names::{Dims, Meaning, Property, Vector};
 
 impl Extent {
+    /// Whether it is one number.
     pub fn is_single(self) -> bool
         ensures { result ≡ forms.is_single self }
     {
@@ -18,6 +19,7 @@ impl Extent {
         }
     }
 
+    /// Whether it is a row of an array of two dimensions.
     pub fn is_row(self) -> bool
         ensures { result ≡ forms.is_row self }
     {
@@ -27,6 +29,7 @@ impl Extent {
         }
     }
 
+    /// Whether it is a whole array.
     pub fn is_whole(self) -> bool
         ensures { result ≡ forms.is_whole self }
     {
@@ -64,6 +67,7 @@ impl Extent {
 }
 
 impl Root {
+    /// Whether it is a handle of an object.
     pub fn is_object(self) -> bool
         ensures { result ≡ forms.is_object self }
     {
@@ -74,6 +78,7 @@ impl Root {
         }
     }
 
+    /// Whether the name was refused.
     pub fn is_refused(self) -> bool
         ensures { result ≡ forms.is_refused self }
     {

@@ -74,6 +74,7 @@ impl Reads {
     }
 }
 
+/// Whether a property is cyclic (18.4.2).
 pub fn is_randc(rand: Rand) -> bool
     ensures { result ≡ shapes.is_randc rand }
 {

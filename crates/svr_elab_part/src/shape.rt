@@ -11,6 +11,7 @@ use svr_operator::{BinOp, UnOp};
 use svr_typed::{TExpr, TNode};
 
 impl Shape {
+    /// One unsigned bit, as comparisons and logical operators have it (11.4).
     pub fn bit() -> Shape
         ensures { result ≡ shapes.bit }
     {
@@ -30,6 +31,7 @@ impl Shape {
         }
     }
 
+    /// Unsigned, of this width in bits.
     pub fn bits_wide(width: u8) -> Shape
         ensures { result ≡ shapes.bits_wide width }
     {
@@ -39,6 +41,7 @@ impl Shape {
         }
     }
 
+    /// The width and the sign of a declared type.
     pub fn of_kind(kind: Vector) -> Shape
         ensures { result ≡ shapes.kind_shape kind }
     {
@@ -75,6 +78,7 @@ pub fn choice_shape(x: Option<Shape>, y: Option<Shape>) -> Option<Shape>
     })
 }
 
+/// Width and sign of a unary operator over an operand of this shape (11.6.1); none where the operand has none.
 pub fn unary_shape(op: UnOp, x: Option<Shape>) -> Option<Shape>
     ensures { result ≡ shapes.unary_shape op x }
 {
@@ -84,6 +88,7 @@ pub fn unary_shape(op: UnOp, x: Option<Shape>) -> Option<Shape>
     }
 }
 
+/// Width and sign of a binary operator over operands of these shapes (11.6.1); none where one that counts has none.
 pub fn binary_shape(op: BinOp, x: Option<Shape>, y: Option<Shape>) -> Option<Shape>
     ensures { result ≡ shapes.binary_shape op x y }
 {

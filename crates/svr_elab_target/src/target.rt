@@ -60,6 +60,7 @@ impl Target {
         }
     }
 
+    /// Whether it is an object variable.
     pub fn is_object(self) -> bool
         ensures { result ≡ spec.is_object self }
     {

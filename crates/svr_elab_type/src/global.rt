@@ -27,6 +27,7 @@ pub struct NoNames<'a> {
 }
 
 impl<'a> NoNames<'a> {
+    /// No property, class, variable or loop.
     pub fn new(alloc: Heap) -> NoNames<'a>
         ensures { AreEmpty result }
     {

@@ -89,6 +89,7 @@ fn none_of(alloc: Global, props: &[Prop]) -> Result<Items<bool>, NoMemory>
 {
     let mut random = Items::new(alloc);
     for prop in props {
+        // One for each, whatever it is.
         let _ = prop;
         random.push(false)?;
     }

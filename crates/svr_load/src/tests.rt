@@ -1,3 +1,5 @@
+// The scripts of loads of one class and of five.
+
 use crate::load::load_text;
 
 const ONE: &[u8] =

@@ -1,3 +1,5 @@
+// Text put piece by piece into sinks that take all, some or nothing.
+
 use crate::Pending;
 use svr_edge::{MemSink, NullSink};
 

@@ -139,6 +139,7 @@ pub enum Bound {
 }
 
 impl Expr {
+    /// A number as it is written, with its width and sign (5.7.1).
     pub fn number(at: u32, value: u64, width: u8, signed: bool) -> Expr
         ensures { expr_tree result ≡ tree.number at value width signed }
     {
@@ -150,6 +151,7 @@ impl Expr {
         }
     }
 
+    /// A name, or names with dots between them, and whether parentheses stand behind it.
     pub fn path(at: u32, scope: Scope, names: Items<u32>, call: bool) -> Expr
         ensures { expr_tree result ≡ tree.path at scope names call }
     {
@@ -161,6 +163,7 @@ impl Expr {
         }
     }
 
+    /// A bit-select, or an element of an array (11.5.1).
     pub fn bit_select(
         alloc: Global,
         at: u32,
@@ -179,6 +182,7 @@ impl Expr {
         })
     }
 
+    /// A part-select between two bounds (11.5.1).
     pub fn part_select(
         alloc: Global,
         at: u32,
@@ -198,6 +202,7 @@ impl Expr {
         })
     }
 
+    /// A unary operator and its operand (11.4).
     pub fn unary(alloc: Global, at: u32, op: UnOp, arg: Expr) -> Result<Expr, NoMemory>
         ensures { IfOk result (λ e. expr_tree e ≡ tree.unary at op (expr_tree arg)) }
     {
@@ -208,6 +213,7 @@ impl Expr {
         })
     }
 
+    /// A binary operator and its operands (11.4).
     pub fn binary(
         alloc: Global,
         at: u32,
@@ -225,6 +231,7 @@ impl Expr {
         })
     }
 
+    /// The conditional operator (11.4.11).
     pub fn choice(alloc: Global, at: u32, test: Expr, yes: Expr, no: Expr) -> Result<Expr, NoMemory>
         ensures { IfOk result (λ e. expr_tree e ≡ tree.choice at (expr_tree test) (expr_tree yes) (expr_tree no)) }
     {
@@ -236,6 +243,7 @@ impl Expr {
         })
     }
 
+    /// Set membership (11.4.13).
     pub fn inside(alloc: Global, at: u32, left: Expr, set: Items<Range>) -> Result<Expr, NoMemory>
         ensures { IfOk result (λ e. expr_tree e ≡ tree.inside at (expr_tree left) (range_trees set)) }
     {
@@ -246,12 +254,14 @@ impl Expr {
         })
     }
 
+    /// A concatenation (11.4.12).
     pub fn join(at: u32, parts: Items<Expr>) -> Expr
         ensures { expr_tree result ≡ tree.join at (expr_trees parts) }
     {
         Expr::Join { at, parts }
     }
 
+    /// A replication (11.4.12.1).
     pub fn copies(alloc: Global, at: u32, count: Expr, parts: Items<Expr>) -> Result<Expr, NoMemory>
         ensures { IfOk result (λ e. expr_tree e ≡ tree.copies at (expr_tree count) (expr_trees parts)) }
     {
@@ -262,6 +272,7 @@ impl Expr {
         })
     }
 
+    /// `$signed` or `$unsigned` (11.7).
     pub fn sign(alloc: Global, at: u32, signed: bool, arg: Expr) -> Result<Expr, NoMemory>
         ensures { IfOk result (λ e. expr_tree e ≡ tree.sign at signed (expr_tree arg)) }
     {
@@ -272,6 +283,7 @@ impl Expr {
         })
     }
 
+    /// An expression in parentheses.
     pub fn paren(alloc: Global, at: u32, arg: Expr) -> Result<Expr, NoMemory>
         ensures { IfOk result (λ e. expr_tree e ≡ tree.paren at (expr_tree arg)) }
     {
@@ -281,6 +293,7 @@ impl Expr {
         })
     }
 
+    /// A reduction method of an array, with its `with` clause (7.12.3).
     pub fn reduce(
         alloc: Global,
         at: u32,
@@ -302,12 +315,14 @@ impl Expr {
 }
 
 impl Range {
+    /// One value of a set.
     pub fn one(value: Expr) -> Range
         ensures { range_tree result ≡ tree.one (expr_tree value) }
     {
         Range::One(value)
     }
 
+    /// A range of values between two bounds.
     pub fn span(low: Bound, high: Bound) -> Range
         ensures { range_tree result ≡ tree.span (bound_tree low) (bound_tree high) }
     {
@@ -316,12 +331,14 @@ impl Range {
 }
 
 impl Bound {
+    /// A bound that is an expression.
     pub fn value(value: Expr) -> Bound
         ensures { bound_tree result ≡ tree.value (expr_tree value) }
     {
         Bound::Value(value)
     }
 
+    /// The bound `$`: the least or the greatest value.
     pub fn dollar() -> Bound
         ensures { bound_tree result ≡ tree.dollar }
     {

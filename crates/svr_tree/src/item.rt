@@ -81,6 +81,7 @@ pub struct Set {
 }
 
 impl DistItem {
+    /// A value or range of a distribution, with its weight where one is written.
     pub fn new(range: Range, weight: Option<(Share, Expr)>) -> DistItem
         ensures { dist_item_tree result ≡ record { range = range_tree range; weight = option_map weight_tree weight } }
     {
@@ -89,6 +90,7 @@ impl DistItem {
 }
 
 impl Dist {
+    /// A distribution, at its `dist` (18.5.4).
     pub fn new(at: u32, items: Items<DistItem>) -> Dist
         ensures { dist_tree result ≡ record { at = at; items = dist_item_trees items } }
     {
@@ -97,6 +99,7 @@ impl Dist {
 }
 
 impl Item {
+    /// An expression that has to hold, `soft` or not, with its distribution where there is one (18.5.3, 18.5.4, 18.5.14).
     pub fn plain(at: u32, soft: bool, expr: Expr, dist: Option<Dist>) -> Item
         ensures { item_tree result ≡ tree.plain at soft (expr_tree expr) (option_map dist_tree dist) }
     {
@@ -108,18 +111,21 @@ impl Item {
         }
     }
 
+    /// Members that are pairwise different (18.5.5).
     pub fn unique(at: u32, members: Items<Expr>) -> Item
         ensures { item_tree result ≡ tree.unique at (expr_trees members) }
     {
         Item::Unique { at, members }
     }
 
+    /// An implication (18.5.6).
     pub fn implies(at: u32, test: Expr, body: Set) -> Item
         ensures { item_tree result ≡ tree.implies at (expr_tree test) (set_tree body) }
     {
         Item::Implies { at, test, body }
     }
 
+    /// `if` without `else` (18.5.7).
     pub fn branch(at: u32, test: Expr, yes: Set) -> Item
         ensures { item_tree result ≡ tree.branch at (expr_tree test) (set_tree yes) tree.no_else }
     {
@@ -131,6 +137,7 @@ impl Item {
         }
     }
 
+    /// `if` with `else` (18.5.7).
     pub fn branch_else(at: u32, test: Expr, yes: Set, no: Set) -> Item
         ensures { item_tree result ≡ tree.branch at (expr_tree test) (set_tree yes) (tree.else_set (set_tree no)) }
     {
@@ -142,6 +149,7 @@ impl Item {
         }
     }
 
+    /// A set for each element of an array (18.5.8).
     pub fn foreach(at: u32, array: Expr, vars: Items<u32>, body: Set) -> Item
         ensures { item_tree result ≡ tree.foreach at (expr_tree array) vars (set_tree body) }
     {
@@ -153,12 +161,14 @@ impl Item {
         }
     }
 
+    /// `disable soft` (18.5.14.2).
     pub fn disable(at: u32, target: Expr) -> Item
         ensures { item_tree result ≡ tree.disable at (expr_tree target) }
     {
         Item::Disable { at, target }
     }
 
+    /// `solve .. before` (18.5.10).
     pub fn solve(at: u32, first: Items<Expr>, later: Items<Expr>) -> Item
         ensures { item_tree result ≡ tree.solve at (expr_trees first) (expr_trees later) }
     {
@@ -167,6 +177,7 @@ impl Item {
 }
 
 impl Set {
+    /// Items, in braces or alone.
     pub fn new(braces: bool, items: Items<Item>) -> Set
         ensures { set_tree result ≡ tree.set braces (item_trees items) }
     {

@@ -104,18 +104,21 @@ pub enum Stmt {
 }
 
 impl Stmt {
+    /// A lone semicolon.
     pub fn empty(at: u32) -> Stmt
         ensures { stmt_tree result ≡ tree.empty at }
     {
         Stmt::Empty { at }
     }
 
+    /// `begin .. end` (9.3.1).
     pub fn block(at: u32, stmts: Items<Stmt>) -> Stmt
         ensures { stmt_tree result ≡ tree.block at (stmt_trees stmts) }
     {
         Stmt::Block { at, stmts }
     }
 
+    /// A `repeat` loop (12.7.3).
     pub fn repeat(alloc: Global, at: u32, count: Expr, body: Stmt) -> Result<Stmt, NoMemory>
         ensures { IfOk result (λ s. stmt_tree s ≡ tree.repeat at (expr_tree count) (stmt_tree body)) }
     {
@@ -126,18 +129,21 @@ impl Stmt {
         })
     }
 
+    /// An assignment (10.4).
     pub fn assign(at: u32, target: Expr, value: RightSide) -> Stmt
         ensures { stmt_tree result ≡ tree.assign at (expr_tree target) (right_tree value) }
     {
         Stmt::Assign { at, target, value }
     }
 
+    /// A call of `randomize` (18.6, 18.7).
     pub fn call(at: u32, form: CallForm, call: RandomizeCall) -> Stmt
         ensures { stmt_tree result ≡ tree.call at form (randomize_tree call) }
     {
         Stmt::Call { at, form, call }
     }
 
+    /// A call of `rand_mode` or `constraint_mode` (18.8, 18.9).
     pub fn mode(at: u32, mode: ModeCall) -> Stmt
         ensures { stmt_tree result ≡ tree.mode at (mode_tree mode) }
     {

@@ -22,6 +22,7 @@ fn words_behind(seed: u64, number: u64, count: usize) -> Draws
 {
     let mut draws = Draws::new(seed, number);
     for _place in 0..count {
+        // The word goes unused.
         let _ = draws.word();
     }
     draws

@@ -132,6 +132,7 @@ pub fn all_on<T>(alloc: Global, parts: &[T]) -> Result<Vec<bool>, NoMemory>
 {
     let mut modes = Vec::with_capacity(alloc, parts.len())?;
     for part in parts {
+        // One for each, whatever it is.
         let _ = part;
         push(&mut modes, true)?;
     }
@@ -144,6 +145,7 @@ pub fn nothing_used(alloc: Global, props: &[Prop]) -> Result<Vec<Items<u64>>, No
 {
     let mut used = Vec::with_capacity(alloc, props.len())?;
     for prop in props {
+        // One for each, whatever it is.
         let _ = prop;
         push(&mut used, Items::new(alloc))?;
     }

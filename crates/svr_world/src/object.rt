@@ -61,12 +61,14 @@ impl Object {
         })
     }
 
+    /// The number of its class.
     pub fn class(&self) -> u32
         ensures { result ≡ self.now.class }
     {
         self.class
     }
 
+    /// The numbers of each property: one of a scalar, those of its elements of an array.
     pub fn values(&self) -> &[Items<u64>]
         ensures values { result.now ≡ self.now.values }
         ensures limit { All IsShort result.now }
@@ -100,12 +102,14 @@ impl Object {
         list_at(&self.used, prop)
     }
 
+    /// Whether the property is active by `rand_mode` (18.8).
     pub fn is_prop_on(&self, prop: u32) -> bool
         ensures { result ≡ is_prop_on self.now prop }
     {
         mode_at(&self.rand_modes, prop)
     }
 
+    /// Whether the constraint block is active by `constraint_mode` (18.9).
     pub fn is_block_on(&self, block: u32) -> bool
         ensures { result ≡ is_block_on self.now block }
     {

@@ -291,6 +291,7 @@ fn no_objects(alloc: Global, vars: &[TVar]) -> Result<Vec<Option<Object>>, NoMem
 {
     let mut objects = Vec::with_capacity(alloc, vars.len())?;
     for var in vars {
+        // One for each, whatever it is.
         let _ = var;
         push(&mut objects, None)?;
     }
