@@ -122,8 +122,8 @@ pub not_refused : AcceptedTextsAreNotRefused
 not_refused text tokens seq number place read (by_lexeme fault at first number_is place_is) = tokens_no_fault text tokens fault at read.tokenized first
 not_refused text tokens seq number place read (by_token ts at tokenized stop number_is place_is) =
     no_stop text tokens seq at read.accepted (subst (λ (xs : List Token). StopAt text xs at) (tokens_one text ts tokens tokenized read.tokenized) stop)
-not_refused text tokens seq number place read (by_meaning ts at tokenized first place_is) =
-    no_first text tokens seq (e.Refused number at) read.accepted (subst (λ (xs : List Token). IsRefusedText text xs (e.Refused number at)) (tokens_one text ts tokens tokenized read.tokenized) first)
+not_refused text tokens seq number place read (by_meaning ts why at tokenized first number_is place_is) =
+    no_first text tokens seq (e.Refused why at) read.accepted (subst (λ (xs : List Token). IsRefusedText text xs (e.Refused why at)) (tokens_one text ts tokens tokenized read.tokenized) first)
 
 -- ---- a text has one list of lines
 

@@ -1,11 +1,13 @@
 -- What is said of a text, from what was written of it.
-use Rattle.std.proofs.Common.{◌≡◌, ℕ, Bool, true, false, List, [], Option, Result, Ok, Err, OnOk, OnErr, IfOk, IfErr, IsErrAnd, refl, sym, subst, inl, inr}
+use Rattle.std.proofs.Common.{◌≡◌, ℕ, Bool, true, false, List, [], Option, Result, Ok, Err, OnOk, OnErr, IfOk, IfErr, IsErrAnd, refl, sym, ap, subst, inl, inr}
 use Rattle.std.specs.Io.KnownBytes.{Appends}
 use Rattle.std.proofs.KnownBytes.{Appends-nil, Keeps-refl}
 use Rattle.svr_edge.specs.Known.{AppendsFront}
 use Rattle.svr_token.specs.declared.token.Token.{Token}
 use Rattle.svr_token.specs.Tokens.{IsTokenized}
 use Rattle.svr_token.specs.Names.{name_at}
+use Rattle.svr_refusal.specs.declared.refusal.Refusal.{Refusal}
+use Rattle.svr_refusal.specs.Numbers.{number_of}
 use Rattle.svr_refusal.specs.Place.{place_of, token_start}
 use Rattle.svr_seq.specs.SeqTerm.{SeqTerm}
 use Rattle.svr_seq_made.specs.declared.fault.SeqFault.TheVariants as e
@@ -59,9 +61,9 @@ module _ (text : List ℕ) (tokens : List Token) (seq : SeqTerm) (seed count : �
 
 -- ---- refusals
 
-pub token_refused : (text : List ℕ) (tokens : List Token) (number n : ℕ) → IsTokenized text tokens → reading.IsRefused text tokens (e.Refused number n) → IsRefused text number (place_of text (token_start text tokens n))
-token_refused text tokens number n tokenized (inl (is, stop)) = by_token tokens n tokenized stop is refl
-token_refused text tokens number n tokenized (inr first) = by_meaning tokens n tokenized first refl
+pub token_refused : (text : List ℕ) (tokens : List Token) (why : Refusal) (n : ℕ) → IsTokenized text tokens → reading.IsRefused text tokens (e.Refused why n) → IsRefused text (number_of why) (place_of text (token_start text tokens n))
+token_refused text tokens why n tokenized (inl (is, stop)) = by_token tokens n tokenized stop (ap number_of is) refl
+token_refused text tokens why n tokenized (inr first) = by_meaning tokens why n tokenized first refl refl
 
 pub refusal_told : (text : List ℕ) (seed count : ℕ) (r : Result End Stop) (a : Option (List ℕ)) → IfOk r (λ said. Refuses text said) → IfOk r (λ said. Tells text seed count said a a)
 refusal_told text seed count (Ok end.Whole) a h = absurd h

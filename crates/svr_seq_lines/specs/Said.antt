@@ -39,7 +39,7 @@ pub data IsRefused (text : List ℕ) (number : ℕ) (place : Place) : Type 0 whe
   -- the first token with which the tokens begin no `randsequence`
   by_token : (tokens : List Token) (n : ℕ) → IsTokenized text tokens → StopAt text tokens n → number ≡ number_of refusal.NoSequence → place ≡ place_of text (token_start text tokens n) → IsRefused text number place
   -- the first refusal, by its place and at one place by its number, of a `randsequence` that was read
-  by_meaning : (tokens : List Token) (n : ℕ) → IsTokenized text tokens → IsRefusedText text tokens (e.Refused number n) → place ≡ place_of text (token_start text tokens n) → IsRefused text number place
+  by_meaning : (tokens : List Token) (why : Refusal) (n : ℕ) → IsTokenized text tokens → IsRefusedText text tokens (e.Refused why n) → number ≡ number_of why → place ≡ place_of text (token_start text tokens n) → IsRefused text number place
 
 -- the text has these tokens, nothing in it is refused, and these are its productions
 pub record HasSeq (text : List ℕ) (tokens : List Token) (seq : SeqTerm) : Type 0 where

@@ -27,12 +27,12 @@ fn at_byte(text: &[u8], at: u32, why: Refusal) -> End
 }
 
 /// A refusal at the token of this number.
-fn at_token(text: &[u8], tokens: &[Token], token: u32, number: u8) -> End
+fn at_token(text: &[u8], tokens: &[Token], token: u32, why: Refusal) -> End
     requires { length text.now ≤ TEXT_LIMIT }
-    ensures { result ≡ End.Refused number (spec.place_of text.now (spec.token_start text.now tokens.now token)) }
+    ensures { result ≡ End.Refused (number_of why) (spec.place_of text.now (spec.token_start text.now tokens.now token)) }
 {
     End::Refused {
-        number,
+        number: why.number(),
         place: place_of(text, token_start(text, tokens, token)),
     }
 }
@@ -62,7 +62,7 @@ pub(crate) fn of_tokens(text: &[u8], tokens: &[Token], fault: SeqFault) -> Resul
     ensures memory { IfErr result (λ why. why ≡ Stop.NoMemory) }
 {
     match fault {
-        SeqFault::Refused { number, token } => Ok(at_token(text, tokens, token, number)),
+        SeqFault::Refused { why, token } => Ok(at_token(text, tokens, token, why)),
         SeqFault::NoMemory => Err(Stop::NoMemory),
     }
 }

@@ -5,6 +5,7 @@ use Rattle.std.specs.List.{All, list_any}
 use Rattle.std.proofs.lemmas.Bool.{ltb-true, leb-true, and_parts}
 use Rattle.std.proofs.lemmas.List.{length-map}
 use Rattle.std.proofs.lemmas.List.Elements.{All-nil, All-cons}
+use Rattle.svr_refusal.specs.declared.refusal.Refusal.TheVariants as refusal
 use Rattle.svr_seq.specs.SeqTerm.{ActTerm, block}
 use Rattle.svr_seq.specs.Sound.{depth, IsSoundAct, IsSoundPart, IsSoundRule, IsSoundProduction, IsSound, rule_weights}
 use Rattle.svr_seq_text.specs.declared.text.ActText.TheVariants as t
@@ -55,7 +56,7 @@ module _ (text : ℕ → List ℕ) where
 
   -- a name that is not refused stands for a production
   place-sound : (find : Finder) (n name : ℕ) → IsBounded find n → unknown text find name ≡ [] → place_at text find name < n
-  place-sound find n name h u = go (find (text name)) refl (is-fine (is_some (find (text name))) 37 name u)
+  place-sound find n name h u = go (find (text name)) refl (is-fine (is_some (find (text name))) refusal.UnknownProduction name u)
     where
       go : (o : Option ℕ) → find (text name) ≡ o → is_some (find (text name)) ≡ true → or_first (find (text name)) < n
       go None e s = absurd (let z : false ≡ true = sym (ap is_some e) ∙ s in cc)
@@ -68,11 +69,11 @@ module _ (text : ℕ → List ℕ) where
     pub sound : All IsSoundAct xs
 
   first-fits : (x : ActTree) (acts : List ActTerm) → acts_refusals text (blk [] acts) (act_text x) ≡ [] → length acts < 1024
-  first-fits (printed n) acts h = ltb-true (length acts) 1024 (is-fine (nat_lt (length acts) MOST) 39 n (no-front (unless (nat_lt (length acts) MOST) 39 n) [] h))
+  first-fits (printed n) acts h = ltb-true (length acts) 1024 (is-fine (nat_lt (length acts) MOST) refusal.SequenceTooLarge n (no-front (unless (nat_lt (length acts) MOST) refusal.SequenceTooLarge n) [] h))
   first-fits (chosen at bs) acts h =
       ltb-true (length acts) 1024
-      (is-fine (nat_lt (length acts) MOST) 39 at
-      (no-front (unless (nat_lt (length acts) MOST) 39 at) _ (no-front (piece_refusals (blk [] acts) (t.Choose at)) _ h)))
+      (is-fine (nat_lt (length acts) MOST) refusal.SequenceTooLarge at
+      (no-front (unless (nat_lt (length acts) MOST) refusal.SequenceTooLarge at) _ (no-front (piece_refusals (blk [] acts) (t.Choose at)) _ h)))
 
   acts-sound : (xs : List ActTree) (acts : List ActTerm) → acts_refusals text (blk [] acts) (acts_text xs) ≡ [] → length acts ≤ 1024 → ActsAreSound (length acts) (map (act_of text) xs)
   acts-sound [] acts h l = record { count = omega (arith, l); sound = All-nil IsSoundAct }
@@ -96,20 +97,20 @@ module _ (text : ℕ → List ℕ) where
   -- ---- parts and rules
 
   part-sound : (find : Finder) (n : ℕ) (fits : Bool) (x : PartTree) → IsBounded find n → part_refusals text find fits (part_text x) ≡ [] → IsSoundPart n (part_made text find (part_text x))
-  part-sound find n fits (named m) h r = (place-sound find n m h (no-front (unknown text find m) (unless fits 39 m) r), omega arith)
+  part-sound find n fits (named m) h r = (place-sound find n m h (no-front (unknown text find m) (unless fits refusal.SequenceTooLarge m) r), omega arith)
   part-sound find n fits (repeated at c m) h r =
-      let later = no-back (unless fits 39 at) (unless (nat_le (value_of (text c)) MOST_TIMES) 39 c ++ unknown text find m) r in
-      let few : value_of (text c) ≤ 2048 = leb-true (value_of (text c)) 2048 (is-fine (nat_le (value_of (text c)) MOST_TIMES) 39 c (no-front (unless (nat_le (value_of (text c)) MOST_TIMES) 39 c) (unknown text find m) later)) in
-      (place-sound find n m h (no-back (unless (nat_le (value_of (text c)) MOST_TIMES) 39 c) (unknown text find m) later), few)
+      let later = no-back (unless fits refusal.SequenceTooLarge at) (unless (nat_le (value_of (text c)) MOST_TIMES) refusal.SequenceTooLarge c ++ unknown text find m) r in
+      let few : value_of (text c) ≤ 2048 = leb-true (value_of (text c)) 2048 (is-fine (nat_le (value_of (text c)) MOST_TIMES) refusal.SequenceTooLarge c (no-front (unless (nat_le (value_of (text c)) MOST_TIMES) refusal.SequenceTooLarge c) (unknown text find m) later)) in
+      (place-sound find n m h (no-back (unless (nat_le (value_of (text c)) MOST_TIMES) refusal.SequenceTooLarge c) (unknown text find m) later), few)
   part-sound find n fits (coded at acts) h r =
-      let s : ActsAreSound 0 (map (act_of text) acts) = acts-sound acts [] (no-back (unless fits 39 at) (acts_refusals text (blk [] []) (acts_text acts)) r) (omega arith) in
+      let s : ActsAreSound 0 (map (act_of text) acts) = acts-sound acts [] (no-back (unless fits refusal.SequenceTooLarge at) (acts_refusals text (blk [] []) (acts_text acts)) r) (omega arith) in
       let count : 0 + length (map (act_of text) acts) ≤ 1024 = s.count in
       subst (λ z. IsSoundPart n (block z)) (sym (acts-made text acts)) (omega arith, s.sound)
 
   part-fits : (find : Finder) (fits : Bool) (x : PartTree) → part_refusals text find fits (part_text x) ≡ [] → fits ≡ true
-  part-fits find fits (named m) r = is-fine fits 39 m (no-back (unknown text find m) (unless fits 39 m) r)
-  part-fits find fits (repeated at c m) r = is-fine fits 39 at (no-front (unless fits 39 at) _ r)
-  part-fits find fits (coded at acts) r = is-fine fits 39 at (no-front (unless fits 39 at) _ r)
+  part-fits find fits (named m) r = is-fine fits refusal.SequenceTooLarge m (no-back (unknown text find m) (unless fits refusal.SequenceTooLarge m) r)
+  part-fits find fits (repeated at c m) r = is-fine fits refusal.SequenceTooLarge at (no-front (unless fits refusal.SequenceTooLarge at) _ r)
+  part-fits find fits (coded at acts) r = is-fine fits refusal.SequenceTooLarge at (no-front (unless fits refusal.SequenceTooLarge at) _ r)
 
   record PartsAreSound (find : Finder) (n before : ℕ) (xs : List PartTree) : Type 0 where
     pub count : before + length xs ≤ 1024
@@ -171,8 +172,8 @@ module _ (text : ℕ → List ℕ) where
       let xs : List RuleTree = x.first ∷ x.others in
       let head = no-front (head_refusals text find i (prod_text x)) (rules_refusals text find 0 (map rule_text xs)) k in
       let s : RulesAreSound find n 0 xs = rules-sound xs find n 0 h (no-back (head_refusals text find i (prod_text x)) (rules_refusals text find 0 (map rule_text xs)) k) (omega arith) in
-      let tail = no-back (unless (is_at (find (text x.name)) i) 37 x.name) (unless (list_any (has_weight text) (map rule_text xs)) 38 x.name ++ unless (nat_lt i MOST) 39 x.name) head in
-      let some : list_any (has_weight text) (map rule_text xs) ≡ true = is-fine (list_any (has_weight text) (map rule_text xs)) 38 x.name (no-front (unless (list_any (has_weight text) (map rule_text xs)) 38 x.name) (unless (nat_lt i MOST) 39 x.name) tail) in
+      let tail = no-back (unless (is_at (find (text x.name)) i) refusal.UnknownProduction x.name) (unless (list_any (has_weight text) (map rule_text xs)) refusal.NoWeight x.name ++ unless (nat_lt i MOST) refusal.SequenceTooLarge x.name) head in
+      let some : list_any (has_weight text) (map rule_text xs) ≡ true = is-fine (list_any (has_weight text) (map rule_text xs)) refusal.NoWeight x.name (no-front (unless (list_any (has_weight text) (map rule_text xs)) refusal.NoWeight x.name) (unless (nat_lt i MOST) refusal.SequenceTooLarge x.name) tail) in
       let count : 0 + length xs ≤ 1024 = s.count in
       let a : length (map (rule_made text find) (map rule_text xs)) ≡ length (map rule_text xs) = length-map (map rule_text xs) (rule_made text find) in
       let b : length (map rule_text xs) ≡ length xs = length-map xs rule_text in
@@ -182,8 +183,8 @@ module _ (text : ℕ → List ℕ) where
   prod-fits x find i k =
       let rules : List RuleText = map rule_text (x.first ∷ x.others) in
       let head = no-front (head_refusals text find i (prod_text x)) (rules_refusals text find 0 rules) k in
-      let tail = no-back (unless (is_at (find (text x.name)) i) 37 x.name) (unless (list_any (has_weight text) rules) 38 x.name ++ unless (nat_lt i MOST) 39 x.name) head in
-      ltb-true i 1024 (is-fine (nat_lt i MOST) 39 x.name (no-back (unless (list_any (has_weight text) rules) 38 x.name) (unless (nat_lt i MOST) 39 x.name) tail))
+      let tail = no-back (unless (is_at (find (text x.name)) i) refusal.UnknownProduction x.name) (unless (list_any (has_weight text) rules) refusal.NoWeight x.name ++ unless (nat_lt i MOST) refusal.SequenceTooLarge x.name) head in
+      ltb-true i 1024 (is-fine (nat_lt i MOST) refusal.SequenceTooLarge x.name (no-back (unless (list_any (has_weight text) rules) refusal.NoWeight x.name) (unless (nat_lt i MOST) refusal.SequenceTooLarge x.name) tail))
 
   record ProdsAreSound (find : Finder) (n before : ℕ) (xs : List ProdTree) : Type 0 where
     pub count : before + length xs ≤ 1024

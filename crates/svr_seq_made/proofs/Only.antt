@@ -1,6 +1,7 @@
 -- Tokens have one answer
 use Rattle.std.proofs.Common.{◌≡◌, ℕ, List, [], None, Some, refl, sym, ap, ◌∙◌, ◌⊎◌, inl, inr, Result, Ok, Err}
 use Rattle.std.specs.Prelude.{MatchResult}
+use Rattle.svr_refusal.specs.declared.refusal.Refusal.{Refusal}
 use Rattle.svr_seq.specs.declared.tree.Seq.{Seq}
 use Rattle.svr_seq.specs.SeqTerm.{SeqTerm, seq_term}
 use Rattle.svr_token.specs.declared.token.Token.{Token}
@@ -20,7 +21,7 @@ use Rattle.svr_seq_made.proofs.Told.{IsMade}
 abbrev pub OnlySeq : SeqTerm → Result Seq SeqFault → Type 0
 OnlySeq s r = MatchResult r (λ x. seq_term x ≡ s) (λ x. x ≡ e.NoMemory)
 
-abbrev pub OnlyRefusal : ℕ → ℕ → Result Seq SeqFault → Type 0
+abbrev pub OnlyRefusal : Refusal → ℕ → Result Seq SeqFault → Type 0
 OnlyRefusal n at r = MatchResult r (λ x. ⊥) (λ x. (x ≡ e.Refused n at) ⊎ (x ≡ e.NoMemory))
 
 nothing_first : (rs : List SeqFault) (x : SeqFault) → rs ≡ [] → first_of rs ≡ Some x → ⊥
@@ -37,7 +38,7 @@ found-only-seq text tokens found (Err (e.Refused n at)) h m s k =
     absurd (nothing_first (refusals (name_at text tokens) found) (e.Refused n at) (ap (refusals (name_at text tokens)) same ∙ k.fine) m)
 found-only-seq text tokens found (Err e.NoMemory) h m s k = refl
 
-refused-only : (text : List ℕ) (tokens : List Token) (found : SeqText) (r : Result Seq SeqFault) (n at : ℕ) → IsMade (name_at text tokens) found r
+refused-only : (text : List ℕ) (tokens : List Token) (found : SeqText) (r : Result Seq SeqFault) (n : Refusal) (at : ℕ) → IsMade (name_at text tokens) found r
     → first_of (refusals (name_at text tokens) found) ≡ Some (e.Refused n at) → OnlyRefusal n at r
 refused-only text tokens found (Ok x) n at m k = nothing_first (refusals (name_at text tokens) found) (e.Refused n at) m.0 k
 refused-only text tokens found (Err (e.Refused i j)) n at m k =
@@ -45,7 +46,7 @@ refused-only text tokens found (Err (e.Refused i j)) n at m k =
 refused-only text tokens found (Err e.NoMemory) n at m k = inr refl
 
 pub found-only-refusal : (text : List ℕ) (tokens : List Token) (found : SeqText) (r : Result Seq SeqFault) → AnswersTrees text tokens (Ok found) → AnswersStops text tokens (Ok found) → IsMade (name_at text tokens) found r
-    → (n at : ℕ) → IsRefused text tokens (e.Refused n at) → OnlyRefusal n at r
+    → (n : Refusal) (at : ℕ) → IsRefused text tokens (e.Refused n at) → OnlyRefusal n at r
 found-only-refusal text tokens found r h g m n at (inl k) = absurd (g k.1.0 k.1.1 at k.1.2)
 found-only-refusal text tokens found r h g m n at (inr k) =
     let same : found ≡ text_of k.tree = h k.written.0 k.written.1 k.tree k.written.2 in
@@ -58,7 +59,7 @@ fault-only-seq text tokens x y q h s k =
     q ∙ ap refusal_of same
 
 pub fault-only-refusal : (text : List ℕ) (tokens : List Token) (x : SeqTextFault) (y : SeqFault) → y ≡ refusal_of x → AnswersTrees text tokens (Err x) → AnswersStops text tokens (Err x)
-    → (n at : ℕ) → IsRefused text tokens (e.Refused n at) → (y ≡ e.Refused n at) ⊎ (y ≡ e.NoMemory)
+    → (n : Refusal) (at : ℕ) → IsRefused text tokens (e.Refused n at) → (y ≡ e.Refused n at) ⊎ (y ≡ e.NoMemory)
 fault-only-refusal text tokens x y q h g n at (inl k) = go (g k.1.0 k.1.1 at k.1.2)
   where
     go : (x ≡ t.Unexpected at) ⊎ (x ≡ t.NoMemory) → (y ≡ e.Refused n at) ⊎ (y ≡ e.NoMemory)

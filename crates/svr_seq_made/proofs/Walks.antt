@@ -14,6 +14,10 @@ pub first-front : (x : SeqFault) (all front back : List SeqFault) → all ≡ fr
 first-front (e.Refused n t) all front back h k = ap first_of h ∙ first-append front back (e.Refused n t) k
 first-front e.NoMemory all front back h k = tt
 
+pub first-some : (x : SeqFault) (all front back : List SeqFault) → all ≡ front ++ back → first_of front ≡ Some x → IsFirst x all
+first-some (e.Refused n t) all front back h k = ap first_of h ∙ first-append front back (e.Refused n t) k
+first-some e.NoMemory all front back h k = tt
+
 -- the first behind a front in which nothing is refused
 pub first-back : (x : SeqFault) (all front back : List SeqFault) → all ≡ front ++ back → front ≡ [] → IsFirst x back → IsFirst x all
 first-back (e.Refused n t) all front back h f k = ap first_of (h ∙ ap (λ z. z ++ back) f) ∙ k

@@ -3,6 +3,8 @@ use Rattle.std.proofs.Common.{◌≡◌, ℕ, suc, ◌+◌, ◌≤◌, ◌<◌, 
 use Rattle.std.specs.Prelude.{nat_lt, max}
 use Rattle.std.proofs.lemmas.Bool.{ltb-true}
 use Rattle.std.proofs.lemmas.Bool.Decides.{nat_tests}
+use Rattle.svr_refusal.specs.declared.refusal.Refusal.{Refusal}
+use Rattle.svr_refusal.specs.declared.refusal.Refusal.TheVariants as refusal
 use Rattle.svr_seq.specs.SeqTerm.{ActTerm, choose, branches_of}
 use Rattle.svr_seq.specs.Sound.{depth, branch_depth, branch_count, HasFewBranches, BranchesHaveFew}
 use Rattle.svr_seq_text.specs.declared.text.ActText.{ActText}
@@ -22,9 +24,9 @@ pub no-back : (xs ys : List SeqFault) → xs ++ ys ≡ [] → ys ≡ []
 no-back [] ys h = h
 no-back (x ∷ xs) ys h = absurd (let z : x ∷ (xs ++ ys) ≡ [] = h in cc)
 
-pub is-fine : (fine : Bool) (number token : ℕ) → unless fine number token ≡ [] → fine ≡ true
-is-fine true number token h = refl
-is-fine false number token h = absurd (let z : unless false number token ≡ [] = h in cc)
+pub is-fine : (fine : Bool) (why : Refusal) (token : ℕ) → unless fine why token ≡ [] → fine ≡ true
+is-fine true why token h = refl
+is-fine false why token h = absurd (let z : unless false why token ≡ [] = h in cc)
 
 max-least : (a b n : ℕ) → a ≤ n → b ≤ n → max a b ≤ n
 max-least a b n h k = grind (arith, nat_tests, h, k)
@@ -76,7 +78,7 @@ module _ (text : ℕ → List ℕ) where
     act-within (chosen at bs) b h l =
         let rest : List SeqFault = acts_refusals text (blk (opened 0 [] ∷ b.opens) b.acts) (branches_text bs ++ t.End ∷ []) in
         let here : piece_refusals b (t.Choose at) ≡ [] = no-front (piece_refusals b (t.Choose at)) rest h in
-        let deep : nat_lt (length b.opens) MOST_DEPTH ≡ true = is-fine (nat_lt (length b.opens) MOST_DEPTH) 39 at (no-back (unless (act_fits b.opens b.acts) 39 at) (unless (nat_lt (length b.opens) MOST_DEPTH) 39 at) here) in
+        let deep : nat_lt (length b.opens) MOST_DEPTH ≡ true = is-fine (nat_lt (length b.opens) MOST_DEPTH) refusal.SequenceTooLarge at (no-back (unless (act_fits b.opens b.acts) refusal.SequenceTooLarge at) (unless (nat_lt (length b.opens) MOST_DEPTH) refusal.SequenceTooLarge at) here) in
         let less : length b.opens < 128 = ltb-true (length b.opens) 128 deep in
         let inner : acts_refusals text (blk (opened 0 [] ∷ b.opens) b.acts) (branches_text bs) ≡ [] =
         no-front (acts_refusals text (blk (opened 0 [] ∷ b.opens) b.acts) (branches_text bs)) (acts_refusals text (state text (blk (opened 0 [] ∷ b.opens) b.acts) (branches_text bs)) (t.End ∷ []))
@@ -89,18 +91,18 @@ module _ (text : ℕ → List ℕ) where
     branches-within (last_branch n x) os acts w done h l f =
         let v : ℕ = value_of (text n) in
         let b : BlockSeen = blk (opened v done ∷ os) acts in
-        let fits : nat_lt (length done) MOST ≡ true = is-fine (nat_lt (length done) MOST) 39 n (no-front (unless (nat_lt (length done) MOST) 39 n) (acts_refusals text b (act_text x)) h) in
+        let fits : nat_lt (length done) MOST ≡ true = is-fine (nat_lt (length done) MOST) refusal.SequenceTooLarge n (no-front (unless (nat_lt (length done) MOST) refusal.SequenceTooLarge n) (acts_refusals text b (act_text x)) h) in
         let less : length done < 1024 = ltb-true (length done) 1024 fits in
-        let a : ActIsWithin (suc (length os)) (act_of text x) = act-within x b (no-back (unless (nat_lt (length done) MOST) 39 n) (acts_refusals text b (act_text x)) h) l in
+        let a : ActIsWithin (suc (length os)) (act_of text x) = act-within x b (no-back (unless (nat_lt (length done) MOST) refusal.SequenceTooLarge n) (acts_refusals text b (act_text x)) h) l in
         branch-within (suc (length os)) (length done) v (act_of text x) [] a (none-within (suc (length os)) (suc (length done)) l (omega (arith, less)))
     branches-within (next_branch n x bs) os acts w done h l f =
         let v : ℕ = value_of (text n) in
         let b : BlockSeen = blk (opened v done ∷ os) acts in
         let xs : List ActText = act_text x ++ branches_text bs in
-        let fits : nat_lt (length done) MOST ≡ true = is-fine (nat_lt (length done) MOST) 39 n (no-front (unless (nat_lt (length done) MOST) 39 n) (acts_refusals text b xs) h) in
+        let fits : nat_lt (length done) MOST ≡ true = is-fine (nat_lt (length done) MOST) refusal.SequenceTooLarge n (no-front (unless (nat_lt (length done) MOST) refusal.SequenceTooLarge n) (acts_refusals text b xs) h) in
         let less : length done < 1024 = ltb-true (length done) 1024 fits in
         let all : acts_refusals text b (act_text x) ++ acts_refusals text (state text b (act_text x)) (branches_text bs) ≡ [] =
-        sym (refused-append text (act_text x) (branches_text bs) b) ∙ no-back (unless (nat_lt (length done) MOST) 39 n) (acts_refusals text b xs) h in
+        sym (refused-append text (act_text x) (branches_text bs) b) ∙ no-back (unless (nat_lt (length done) MOST) refusal.SequenceTooLarge n) (acts_refusals text b xs) h in
         let a : ActIsWithin (suc (length os)) (act_of text x) = act-within x b (no-front (acts_refusals text b (act_text x)) (acts_refusals text (state text b (act_text x)) (branches_text bs)) all) l in
         let next : List (ℕ × ActTerm) = done ++ (v, act_of text x) ∷ [] in
         let later : acts_refusals text (blk (opened v next ∷ os) acts) (branches_text bs) ≡ [] =

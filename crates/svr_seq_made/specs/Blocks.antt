@@ -3,6 +3,8 @@ use Rattle.std.specs.Prelude.{ℕ, Bool, true, nat_lt, min, List, [], ◌∷◌,
 use Rattle.svr_token.specs.Lexemes.{number_of}
 use Rattle.svr_token.specs.declared.lexeme.Lexeme.{Lexeme}
 use Rattle.svr_token.specs.declared.lexeme.Lexeme.TheVariants as l
+use Rattle.svr_refusal.specs.declared.refusal.Refusal.{Refusal}
+use Rattle.svr_refusal.specs.declared.refusal.Refusal.TheVariants as refusal
 use Rattle.svr_seq.specs.SeqTerm.{ActTerm, print, choose, branches_of}
 use Rattle.svr_seq_text.specs.declared.text.ActText.{ActText}
 use Rattle.svr_seq_text.specs.declared.text.ActText.TheVariants as t
@@ -19,9 +21,9 @@ abbrev pub literal_value : Lexeme → ℕ
 literal_value (l.Literal value width signed) = min value 4294967295
 literal_value _ = 0
 
--- nothing, or a refusal of this number at a token
-abbrev pub unless : Bool → ℕ → ℕ → List SeqFault
-unless fine number token = if fine then [] else e.Refused number token ∷ []
+-- nothing, or a refusal at a token
+abbrev pub unless : Bool → Refusal → ℕ → List SeqFault
+unless fine why token = if fine then [] else e.Refused why token ∷ []
 
 -- a choice on the way: the weight of the branch at hand, and the branches before it
 pub record Opened : Type 0 where
@@ -71,9 +73,9 @@ branch_fits (o ∷ os) = nat_lt (length o.branches) MOST
 
 -- what is refused at one piece
 abbrev pub piece_refusals : BlockSeen → ActText → List SeqFault
-piece_refusals b (t.Print name) = unless (act_fits b.opens b.acts) 39 name
-piece_refusals b (t.Choose at) = unless (act_fits b.opens b.acts) 39 at ++ unless (nat_lt (length b.opens) MOST_DEPTH) 39 at
-piece_refusals b (t.Branch weight) = unless (branch_fits b.opens) 39 weight
+piece_refusals b (t.Print name) = unless (act_fits b.opens b.acts) refusal.SequenceTooLarge name
+piece_refusals b (t.Choose at) = unless (act_fits b.opens b.acts) refusal.SequenceTooLarge at ++ unless (nat_lt (length b.opens) MOST_DEPTH) refusal.SequenceTooLarge at
+piece_refusals b (t.Branch weight) = unless (branch_fits b.opens) refusal.SequenceTooLarge weight
 piece_refusals b t.End = []
 
 abbrev pub acts_refusals : (ℕ → List ℕ) → BlockSeen → List ActText → List SeqFault

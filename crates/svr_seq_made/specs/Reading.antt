@@ -1,5 +1,6 @@
 -- Tokens that write a `randsequence` without a refusal, and the first refusal of any others
 use Rattle.std.specs.Prelude.{◌≡◌, ◌⊎◌, ℕ, List, [], Some}
+use Rattle.svr_refusal.specs.declared.refusal.Refusal.TheVariants as refusal
 use Rattle.svr_seq.specs.SeqTerm.{SeqTerm}
 use Rattle.svr_token.specs.declared.token.Token.{Token}
 use Rattle.svr_token.specs.Names.{name_at}
@@ -25,12 +26,12 @@ pub record IsRefusedText (text : List ℕ) (tokens : List Token) (fault : SeqFau
   pub written : WriteTree text tokens tree
   pub first : first_of (refusals (name_at text tokens) (text_of tree)) ≡ Some fault
 
--- 36: the tokens write no text, and this is the first with which they begin none; or the text is refused
+-- the tokens write no text, and this is the first with which they begin none; or the text is refused
 abbrev pub IsRefused : List ℕ → List Token → SeqFault → Type 0
-IsRefused text tokens (e.Refused number token) = ((number ≡ 36) × StopAt text tokens token) ⊎ IsRefusedText text tokens (e.Refused number token)
+IsRefused text tokens (e.Refused why token) = ((why ≡ refusal.NoSequence) × StopAt text tokens token) ⊎ IsRefusedText text tokens (e.Refused why token)
 IsRefused text tokens e.NoMemory = Unit {0}
 
 -- a fault of the text as a refusal
 abbrev pub refusal_of : SeqTextFault → SeqFault
-refusal_of (t.Unexpected number) = e.Refused 36 number
+refusal_of (t.Unexpected token) = e.Refused refusal.NoSequence token
 refusal_of t.NoMemory = e.NoMemory

@@ -2,6 +2,7 @@
 use Rattle.std.specs.Prelude.{◌≡◌, ℕ, suc, Bool, true, false, ◌==◌, ◌&&◌, nat_eq, nat_lt, nat_le, List, [], ◌∷◌, ◌++◌, Option, None, Some, is_some, if◌then◌else◌}
 use Rattle.std.specs.List.{list_any}
 use Rattle.std.specs.Cmp.Lexicographic.{pointwise}
+use Rattle.svr_refusal.specs.declared.refusal.Refusal.TheVariants as refusal
 use Rattle.svr_seq_text.specs.declared.text.PartText.{PartText}
 use Rattle.svr_seq_text.specs.declared.text.PartText.TheVariants as p
 use Rattle.svr_seq_text.specs.declared.text.RuleText.{RuleText}
@@ -38,9 +39,9 @@ entries text es n (x ∷ xs) = entries text (and_entry es (text x.name) n) (suc 
 abbrev pub Finder : Type 0
 Finder = List ℕ → Option ℕ
 
--- 37: no production has the name
+-- no production has the name
 abbrev pub unknown : (ℕ → List ℕ) → Finder → ℕ → List SeqFault
-unknown text find name = unless (is_some (find (text name))) 37 name
+unknown text find name = unless (is_some (find (text name))) refusal.UnknownProduction name
 
 abbrev pub is_at : Option ℕ → ℕ → Bool
 is_at None n = false
@@ -56,9 +57,9 @@ has_weight text r = nat_lt 0 (weight_of text r.weight)
 
 -- `fits` tells whether the part, and the rule that it begins, are within the limits
 abbrev pub part_refusals : (ℕ → List ℕ) → Finder → Bool → PartText → List SeqFault
-part_refusals text find fits (p.Name name) = unknown text find name ++ unless fits 39 name
-part_refusals text find fits (p.Repeat at count name) = unless fits 39 at ++ (unless (nat_le (value_of (text count)) MOST_TIMES) 39 count ++ unknown text find name)
-part_refusals text find fits (p.Block at acts) = unless fits 39 at ++ acts_refusals text fresh acts
+part_refusals text find fits (p.Name name) = unknown text find name ++ unless fits refusal.SequenceTooLarge name
+part_refusals text find fits (p.Repeat at count name) = unless fits refusal.SequenceTooLarge at ++ (unless (nat_le (value_of (text count)) MOST_TIMES) refusal.SequenceTooLarge count ++ unknown text find name)
+part_refusals text find fits (p.Block at acts) = unless fits refusal.SequenceTooLarge at ++ acts_refusals text fresh acts
 
 abbrev pub parts_refusals : (ℕ → List ℕ) → Finder → Bool → ℕ → List PartText → List SeqFault
 parts_refusals text find fits i [] = []
@@ -68,11 +69,11 @@ abbrev pub rules_refusals : (ℕ → List ℕ) → Finder → ℕ → List RuleT
 rules_refusals text find i [] = []
 rules_refusals text find i (r ∷ rs) = parts_refusals text find (true && nat_lt i MOST) 0 r.parts ++ rules_refusals text find (suc i) rs
 
--- 37: it is not the first of its name; 38: all its rules have weight 0; 39: it is one too many
+-- it is not the first of its name; all its rules have weight 0; it is one too many
 abbrev pub head_refusals : (ℕ → List ℕ) → Finder → ℕ → ProdText → List SeqFault
 head_refusals text find i x =
-    unless (is_at (find (text x.name)) i) 37 x.name
-    ++ (unless (list_any (has_weight text) x.rules) 38 x.name ++ unless (nat_lt i MOST) 39 x.name)
+    unless (is_at (find (text x.name)) i) refusal.UnknownProduction x.name
+    ++ (unless (list_any (has_weight text) x.rules) refusal.NoWeight x.name ++ unless (nat_lt i MOST) refusal.SequenceTooLarge x.name)
 
 abbrev pub prod_refusals : (ℕ → List ℕ) → Finder → ℕ → ProdText → List SeqFault
 prod_refusals text find i x = head_refusals text find i x ++ rules_refusals text find 0 x.rules
@@ -98,5 +99,5 @@ first_of (r ∷ rs) = Some r
 
 -- it is the first refusal, or there was no memory
 abbrev pub IsFirst : SeqFault → List SeqFault → Type 0
-IsFirst (e.Refused number token) rs = first_of rs ≡ Some (e.Refused number token)
+IsFirst (e.Refused why token) rs = first_of rs ≡ Some (e.Refused why token)
 IsFirst e.NoMemory rs = Unit {0}

@@ -12,6 +12,7 @@ use crate::limits::{MOST, MOST_DEPTH};
 use crate::setting::Setting;
 use sqlite_items::Items;
 use std::alloc::{AllocError, Global};
+use svr_refusal::Refusal;
 use svr_seq::{Act, Branch};
 use svr_seq_text::ActText;
 
@@ -96,17 +97,21 @@ impl Block {
         }
     }
 
-    /// Errors: 39 where the piece passes a limit.
+    /// Errors: `SequenceTooLarge` where the piece passes a limit.
     fn allows(&self, piece: ActText) -> Result<(), SeqFault>
         ensures { MatchResult result (λ _. spec.piece_refusals (seen self.now) piece ≡ []) (λ e. first_of (spec.piece_refusals (seen self.now) piece) ≡ Some e) }
     {
         match piece {
-            ActText::Print(at) => unless(self.act_fits(), 39, at),
+            ActText::Print(at) => unless(self.act_fits(), Refusal::SequenceTooLarge, at),
             ActText::Choose(at) => {
-                unless(self.act_fits(), 39, at)?;
-                unless(self.opens.len() < MOST_DEPTH, 39, at)
+                unless(self.act_fits(), Refusal::SequenceTooLarge, at)?;
+                unless(self.opens.len() < MOST_DEPTH, Refusal::SequenceTooLarge, at)
             }
-            ActText::Branch(at) => unless(branch_fits(self.opens.as_slice()), 39, at),
+            ActText::Branch(at) => unless(
+                branch_fits(self.opens.as_slice()),
+                Refusal::SequenceTooLarge,
+                at,
+            ),
             ActText::End => Ok(()),
         }
     }

@@ -4,6 +4,7 @@ ghost use Rattle.std.specs.Prelude.{◌≡◌, ◌⊎◌, ◌<◌, ◌^◌, ℕ,
 ghost use Rattle.std.specs.List.{All};
 ghost use Rattle.svr_token.specs.declared.lexeme.Lexeme.{Lexeme as LexemeType};
 ghost use Rattle.svr_token.specs.Tokens.{IsTokenOf};
+ghost use Rattle.svr_refusal.specs.declared.refusal.Refusal.{Refusal};
 ghost use Rattle.svr_seq.specs.SeqTerm.{SeqTerm, seq_term};
 ghost use Rattle.svr_seq.specs.Sound.{IsSound};
 ghost use Rattle.svr_seq_made.specs.Reading.{IsSeqOf, IsRefused};
@@ -17,7 +18,7 @@ use svr_token::{Names, Token};
 
 /// The `randsequence` that the tokens of a text write (IEEE 1800-2017, 18.16 and 18.17), with its names resolved. The conditions are what the lexer says of its tokens.
 ///
-/// Errors: 36, the first token with which the tokens begin no such text; otherwise the first of 37 to 39 in the order of the text.
+/// Errors: `NoSequence`, the first token with which the tokens begin no such text; otherwise the first refusal in the order of the text.
 pub fn read_seq(alloc: Global, text: &[u8], tokens: &[Token]) -> Result<Seq, SeqFault>
     requires spelled { All (λ t. (l : LexemeType) × IsTokenOf text.now t l) tokens.now }
     requires few { length tokens.now < 2 ^ 32 }
@@ -27,7 +28,7 @@ pub fn read_seq(alloc: Global, text: &[u8], tokens: &[Token]) -> Result<Seq, Seq
 
     // Want of memory aside, tokens that write an unrefused text are answered by it, and any others by their first refusal.
     ensures only_seq { (s : SeqTerm) → IsSeqOf text.now tokens.now s → MatchResult result (λ r. seq_term r ≡ s) (λ e. e ≡ SeqFault.NoMemory) }
-    ensures only_refusal { (number token : ℕ) → IsRefused text.now tokens.now (SeqFault.Refused number token) → MatchResult result (λ r. ⊥) (λ e. (e ≡ SeqFault.Refused number token) ⊎ (e ≡ SeqFault.NoMemory)) }
+    ensures only_refusal { (why : Refusal) (token : ℕ) → IsRefused text.now tokens.now (SeqFault.Refused why token) → MatchResult result (λ r. ⊥) (λ e. (e ≡ SeqFault.Refused why token) ⊎ (e ≡ SeqFault.NoMemory)) }
 {
     match read(alloc, text, tokens) {
         Ok(found) => make(alloc, Names { text, tokens }, &found),

@@ -6,15 +6,15 @@ ghost use Rattle.svr_seq_made.specs.Reading as reading;
 
 use sqlite_items::Items;
 use std::alloc::AllocError;
+use svr_refusal::Refusal;
 use svr_seq_text::SeqTextFault;
 
 /// Why a text of `randsequence` is refused.
 #[derive(Clone, Copy, Debug, PartialEq, Eq)]
 pub enum SeqFault {
-    /// A refusal by its number, and the token where it stands:
-    /// 36, the first token with which the tokens begin no such text; 37, a name that no production has, or a production whose name an earlier one has;
-    /// 38, a production all of whose rules have the weight 0; 39, what passes a limit.
-    Refused { number: u8, token: u32 },
+    /// A refusal, and the token where it stands: the first token with which the tokens begin no such text (`NoSequence`); a name that no production has, or a production whose name an earlier one has (`UnknownProduction`);
+    /// a production all of whose rules have the weight 0 (`NoWeight`); what passes a limit (`SequenceTooLarge`).
+    Refused { why: Refusal, token: u32 },
     /// There was no memory.
     NoMemory,
 }
@@ -30,21 +30,21 @@ impl From<AllocError> for SeqFault {
     }
 }
 
-/// Nothing, or the refusal of this number at a token.
-pub(crate) fn unless(fine: bool, number: u8, token: u32) -> Result<(), SeqFault>
-    ensures { MatchResult result (λ _. spec.unless fine number token ≡ []) (λ e. spec.unless fine number token ≡ e ∷ []) }
+/// Nothing, or a refusal at a token.
+pub(crate) fn unless(fine: bool, why: Refusal, token: u32) -> Result<(), SeqFault>
+    ensures { MatchResult result (λ _. spec.unless fine why token ≡ []) (λ e. spec.unless fine why token ≡ e ∷ []) }
 {
     if fine {
         Ok(())
     } else {
-        Err(SeqFault::Refused { number, token })
+        Err(SeqFault::Refused { why, token })
     }
 }
 
-pub(crate) fn refused(number: u8, token: u32) -> SeqFault
-    ensures { result ≡ SeqFault.Refused number token }
+pub(crate) fn refused(why: Refusal, token: u32) -> SeqFault
+    ensures { result ≡ SeqFault.Refused why token }
 {
-    SeqFault::Refused { number, token }
+    SeqFault::Refused { why, token }
 }
 
 /// One more item.
@@ -63,7 +63,7 @@ pub(crate) fn refusal_of(fault: SeqTextFault) -> SeqFault
     ensures { result ≡ reading.refusal_of fault }
 {
     match fault {
-        SeqTextFault::Unexpected { token } => SeqFault::Refused { number: 36, token },
+        SeqTextFault::Unexpected { token } => refused(Refusal::NoSequence, token),
         SeqTextFault::NoMemory => SeqFault::NoMemory,
     }
 }

@@ -15,6 +15,7 @@ use crate::limits::{MOST, MOST_TIMES};
 use crate::setting::Setting;
 use sqlite_items::Items;
 use std::alloc::Global;
+use svr_refusal::Refusal;
 use svr_seq::{Part, Production, Rule};
 use svr_seq_text::{PartText, ProdText, RuleText};
 
@@ -37,18 +38,18 @@ fn part_of(
     match part {
         PartText::Name(name) => {
             let prod = set.known(*name)?;
-            unless(fits, 39, *name)?;
+            unless(fits, Refusal::SequenceTooLarge, *name)?;
             Ok(Part::Expand { prod, times: 1 })
         }
         PartText::Repeat { at, count, name } => {
-            unless(fits, 39, *at)?;
+            unless(fits, Refusal::SequenceTooLarge, *at)?;
             let times = set.value(*count);
-            unless(times <= MOST_TIMES, 39, *count)?;
+            unless(times <= MOST_TIMES, Refusal::SequenceTooLarge, *count)?;
             let prod = set.known(*name)?;
             Ok(Part::Expand { prod, times })
         }
         PartText::Block { at, acts } => {
-            unless(fits, 39, *at)?;
+            unless(fits, Refusal::SequenceTooLarge, *at)?;
             Ok(Part::Block(acts_of(alloc, set, acts.as_slice())?))
         }
     }

@@ -13,6 +13,7 @@ use crate::limits::MOST;
 use crate::numbers::value;
 use indexmap::IndexMap;
 use std::alloc::Global;
+use svr_refusal::Refusal;
 use svr_seq_text::{ProdText, RuleText};
 use svr_token::Names;
 
@@ -74,13 +75,13 @@ impl Setting<'_, '_> {
 
     /// The place of the production that a name names.
     ///
-    /// Errors: 37 where no production has the name.
+    /// Errors: `UnknownProduction` where no production has the name.
     pub(crate) fn known(&self, name: u32) -> Result<u32, SeqFault>
         ensures { let find = found_in self.now.places.now.entries in let text = names_of self.now.names in MatchResult result (λ n. (spec.unknown text find name ≡ []) × (find (text name) ≡ Some n)) (λ e. spec.unknown text find name ≡ e ∷ []) }
     {
         match self.place(name) {
             Some(place) => Ok(place),
-            None => Err(refused(37, name)),
+            None => Err(refused(Refusal::UnknownProduction, name)),
         }
     }
 
@@ -108,13 +109,21 @@ impl Setting<'_, '_> {
         rules.iter().any(|rule| self.weight(rule.weight) > 0)
     }
 
-    /// Errors: 37 where the production is not the first of its name, 38 where all its rules have weight 0, 39 where it is one too many.
+    /// Errors: `UnknownProduction` where the production is not the first of its name, `NoWeight` where all its rules have weight 0, `SequenceTooLarge` where it is one too many.
     pub(crate) fn head(&self, at: usize, prod: &ProdText) -> Result<(), SeqFault>
         ensures { let find = found_in self.now.places.now.entries in let rs = spec.head_refusals (names_of self.now.names) find at prod.now in MatchResult result (λ _. rs ≡ []) (λ e. first_of rs ≡ Some e) }
     {
-        unless(is_at(self.place(prod.name), at), 37, prod.name)?;
-        unless(self.have_weight(prod.rules.as_slice()), 38, prod.name)?;
-        unless(at < MOST, 39, prod.name)
+        unless(
+            is_at(self.place(prod.name), at),
+            Refusal::UnknownProduction,
+            prod.name,
+        )?;
+        unless(
+            self.have_weight(prod.rules.as_slice()),
+            Refusal::NoWeight,
+            prod.name,
+        )?;
+        unless(at < MOST, Refusal::SequenceTooLarge, prod.name)
     }
 }
 

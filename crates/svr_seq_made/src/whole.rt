@@ -28,8 +28,8 @@ fn start_of(set: &Setting<'_, '_>, start: Option<u32>) -> Result<u32, SeqFault>
 
 /// A text with its names resolved.
 ///
-/// Errors: the first refusal in the order of the text, at one place that of the lower number: 37, a name that no production has, or a second production of a name;
-/// 38, a production all of whose rules have weight 0; 39, over 1,024 productions, rules, parts, acts or branches, a count over 2,048, or `randcase` nested over 128 deep.
+/// Errors: the first refusal in the order of the text, at one place that of the lower number: `UnknownProduction`, a name that no production has, or a second production of a name;
+/// `NoWeight`, a production all of whose rules have weight 0; `SequenceTooLarge`, over 1,024 productions, rules, parts, acts or branches, a count over 2,048, or `randcase` nested over 128 deep.
 pub fn make(alloc: Global, names: Names<'_>, text: &SeqText) -> Result<Seq, SeqFault>
     requires few { length text.now.prods < 2 ^ 32 }
     ensures { MatchResult result (λ s. (refusals (names_of names.entry) text.now ≡ []) × (seq_term s ≡ seq_made (names_of names.entry) text.now)) (λ e. IsFirst e (refusals (names_of names.entry) text.now)) }

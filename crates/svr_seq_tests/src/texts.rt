@@ -50,7 +50,7 @@ fn prints(alloc: Global, text: &[u8], wanted: &[u32]) -> bool {
 
 fn is_refused(alloc: Global, text: &[u8], wanted: u8, at: u32) -> bool {
     match made(alloc, text) {
-        Err(SeqFault::Refused { number, token }) => number == wanted && token == at,
+        Err(SeqFault::Refused { why, token }) => why.number() == wanted && token == at,
         _ => false,
     }
 }
