@@ -18,7 +18,7 @@ use Rattle.svr_watch.proofs.Values.{false-whole}
 use Rattle.svr_trail.proofs.Trails.{or_else, sign_at-push}
 use Rattle.svr_trail.proofs.TableLemmas.{within-from_value}
 use Rattle.svr_cdcl.specs.Learned.{is_decided, is_explained, is_kept}
-use Rattle.svr_cdcl.specs.Marks.{Marks, begun, is_before, is_false_besides, is_marked, is_touched, lower_lits, touches}
+use Rattle.svr_cdcl.specs.Marks.{Marks, begun, is_before, is_false_besides, is_marked, is_touched, touches}
 
 or_assoc : (a b c : Bool) → ((a || b) || c) ≡ (a || (b || c))
 or_assoc true b c = refl
@@ -127,18 +127,6 @@ forces-besides ks es i l n f k q =
       | inl s ↦ or_left (same_lit x l) (is_false (value_in es x)) s
       | inr s ↦ or_right (same_lit x l) (is_false (value_in es x)) (false-whole es i x s)
     ]) (ap (is_false_but (take i es) l) d ∙ f.3)
-
-pub lower-push : (es : List Entry) (base : ℕ) (ms : List Entry) (m : Entry) → lower_lits es base (ms ++ m ∷ []) ≡ lower_lits es base ms ++ (if is_false (value_in (take base es) m.lit) then m.lit ∷ [] else [])
-lower-push es base [] m = refl
-lower-push es base (n ∷ ms) m = goes (is_false (value_in (take base es) n.lit)) (lower-push es base ms m)
-  where
-    tail : List Lit
-    tail = if is_false (value_in (take base es) m.lit) then m.lit ∷ [] else []
-
-    goes : (b : Bool) → lower_lits es base (ms ++ m ∷ []) ≡ lower_lits es base ms ++ tail → (if b then n.lit ∷ lower_lits es base (ms ++ m ∷ []) else lower_lits es base (ms ++ m ∷ []))
-        ≡ (if b then n.lit ∷ lower_lits es base ms else lower_lits es base ms) ++ tail
-    goes true r = ap (λ z. n.lit ∷ z) r
-    goes false r = r
 
 and_true : (a : Bool) → (a && true) ≡ a
 and_true true = refl

@@ -19,95 +19,12 @@ use Rattle.svr_watch.proofs.Values.{false-later, false-whole}
 use Rattle.svr_watch.proofs.Learned.{unit-same}
 use Rattle.svr_cdcl.specs.Learned.{Accepts, Derives}
 use Rattle.svr_cdcl.proofs.Asserting.{accepted-from}
-use Rattle.svr_cdcl.specs.Marks.{AreFalse, Marks, is_last, is_marked, lower_lits}
+use Rattle.svr_cdcl.specs.Marks.{AreFalse, Marks, are_below, is_last, is_marked}
 use Rattle.svr_cdcl.proofs.Chains.{false-less}
-use Rattle.svr_cdcl.proofs.Walk.{Walk, walk-begins, walk-skips, walk-resolves, begins-clause, skips-clause, resolves-clause, pivot-has, false-one}
-
-marked-more : (m : Entry) (ms : List Entry) (v : ℕ) → is_marked ms v ≡ true → is_marked (m ∷ ms) v ≡ true
-marked-more m ms v h =
-    elim (cases_Bool (nat_eq m.lit.var v)) [
-      | inl t ↦ ap is_some (cond-true _ _ _ t)
-      | inr t ↦ ap is_some (cond-false _ _ _ t) ∙ h
-    ]
-
-marked-first : (m : Entry) (ms : List Entry) → is_marked (m ∷ ms) m.lit.var ≡ true
-marked-first m ms = ap is_some (cond-true _ _ _ (eq-eqb m.lit.var m.lit.var refl))
-
-marked-rest : (m : Entry) (ms : List Entry) (v : ℕ) → nat_eq m.lit.var v ≡ false → is_marked (m ∷ ms) v ≡ true → is_marked ms v ≡ true
-marked-rest m ms v t h = ap is_some (sym (cond-false _ _ _ t)) ∙ h
-
--- the marked literals that are false by the first entries
-pub lower-from : (es : List Entry) (base : ℕ) (ms : List Entry) (x : Lit) → has (lower_lits es base ms) x ≡ true → (is_false (value_in (take base es) x) ≡ true) × (is_marked ms x.var ≡ true)
-lower-from es base [] x h = absurd (false≢true h)
-lower-from es base (m ∷ ms) x h =
-    elim (cases_Bool (is_false (value_in (take base es) m.lit))) [
-      | inl f ↦
-          let g : (same_lit m.lit x || has (lower_lits es base ms) x) ≡ true = ap (λ z. has z x) (sym (cond-true _ _ _ f)) ∙ h in
-          elim (or_cases (same_lit m.lit x) (has (lower_lits es base ms) x) g) [
-            | inl s ↦
-                let q : m.lit ≡ x = same_lit-true m.lit x s in
-                (ap (λ z. is_false (value_in (take base es) z)) (sym q) ∙ f, ap (λ (z : Lit). is_marked (m ∷ ms) z.var) (sym q) ∙ marked-first m ms)
-            | inr s ↦ let r = lower-from es base ms x s in (r.0, marked-more m ms x.var r.1)
-          ]
-      | inr f ↦ let r = lower-from es base ms x (ap (λ z. has z x) (sym (cond-false _ _ _ f)) ∙ h) in (r.0, marked-more m ms x.var r.1)
-    ]
-
-pub lower-to : (es : List Entry) (base : ℕ) (ms : List Entry) (x : Lit) → AreFalse es ms → is_false (value_in (take base es) x) ≡ true → is_marked ms x.var ≡ true → has (lower_lits es base ms) x ≡ true
-lower-to es base [] x a f h = absurd (false≢true h)
-lower-to es base (m ∷ ms) x a f h =
-    elim (cases_Bool (nat_eq m.lit.var x.var)) [
-      | inl t ↦
-          let q : m.lit ≡ x = false-one es m.lit x (a zero m (omega arith)) (false-whole es base x f) (eqb-true m.lit.var x.var t) in
-          let g : is_false (value_in (take base es) m.lit) ≡ true = ap (λ z. is_false (value_in (take base es) z)) q ∙ f in
-          ap (λ z. has z x) (cond-true _ _ _ g) ∙ or_left (same_lit m.lit x) (has (lower_lits es base ms) x) (ap (λ z. same_lit z x) q ∙ lit-self x)
-      | inr t ↦
-          let r : has (lower_lits es base ms) x ≡ true = lower-to es base ms x (λ i d o. a (suc i) d (omega arith)) f (marked-rest m ms x.var t h) in
-          elim (cases_Bool (is_false (value_in (take base es) m.lit))) [
-            | inl g ↦ ap (λ z. has z x) (cond-true _ _ _ g) ∙ or_right (same_lit m.lit x) (has (lower_lits es base ms) x) r
-            | inr g ↦ ap (λ z. has z x) (cond-false _ _ _ g) ∙ r
-          ]
-    ]
-
--- no marked literal but the pivot is left of the level
-pub last-from : (es : List Entry) (base left : ℕ) (p : Lit) (ms : List Entry) (x : Lit) → AreFalse es ms → is_last es base left p ms ≡ true → is_marked ms x.var ≡ true
-    → is_false (value_in (take left es) x) ≡ true → (same_lit x p || is_false (value_in (take base es) x)) ≡ true
-last-from es base left p [] x a l h f = absurd (false≢true h)
-last-from es base left p (m ∷ ms) x a l h f =
-    let b = and_parts (same_lit m.lit p || (is_false (value_in (take base es) m.lit) || not (is_false (value_in (take left es) m.lit)))) (is_last es base left p ms) l in
-    elim (cases_Bool (nat_eq m.lit.var x.var)) [
-      | inl t ↦
-          let q : m.lit ≡ x = false-one es m.lit x (a zero m (omega arith)) (false-whole es left x f) (eqb-true m.lit.var x.var t) in
-          let g : (same_lit x p || (is_false (value_in (take base es) x) || not (is_false (value_in (take left es) x)))) ≡ true
-          = ap (λ z. same_lit z p || (is_false (value_in (take base es) z) || not (is_false (value_in (take left es) z)))) (sym q) ∙ b.0 in
-          elim (or_cases (same_lit x p) (is_false (value_in (take base es) x) || not (is_false (value_in (take left es) x))) g) [
-            | inl s ↦ or_left (same_lit x p) (is_false (value_in (take base es) x)) s
-            | inr s ↦ elim (or_cases (is_false (value_in (take base es) x)) (not (is_false (value_in (take left es) x))) s) [
-              | inl r ↦ or_right (same_lit x p) (is_false (value_in (take base es) x)) r
-              | inr r ↦ absurd (both_ways (is_false (value_in (take left es) x)) (not-true (is_false (value_in (take left es) x)) r) f)
-            ]
-          ]
-      | inr t ↦ last-from es base left p ms x (λ i d o. a (suc i) d (omega arith)) b.1 (marked-rest m ms x.var t h) f
-    ]
-
-pub last-to : (es : List Entry) (base left : ℕ) (p : Lit) (ms : List Entry)
-    → ((x : Lit) → is_marked ms x.var ≡ true → is_false (value_in (take left es) x) ≡ true → (same_lit x p || is_false (value_in (take base es) x)) ≡ true) → is_last es base left p ms ≡ true
-last-to es base left p [] f = refl
-last-to es base left p (m ∷ ms) f =
-    and_from (same_lit m.lit p || (is_false (value_in (take base es) m.lit) || not (is_false (value_in (take left es) m.lit)))) (is_last es base left p ms)
-    first
-    (last-to es base left p ms (λ x h g. f x (marked-more m ms x.var h) g))
-  where
-    first : (same_lit m.lit p || (is_false (value_in (take base es) m.lit) || not (is_false (value_in (take left es) m.lit)))) ≡ true
-    first =
-        elim (cases_Bool (is_false (value_in (take left es) m.lit))) [
-          | inl g ↦ elim (or_cases (same_lit m.lit p) (is_false (value_in (take base es) m.lit)) (f m.lit (marked-first m ms) g)) [
-            | inl s ↦ or_left (same_lit m.lit p) (is_false (value_in (take base es) m.lit) || not (is_false (value_in (take left es) m.lit))) s
-            | inr s ↦ or_right (same_lit m.lit p) (is_false (value_in (take base es) m.lit) || not (is_false (value_in (take left es) m.lit)))
-                (or_left (is_false (value_in (take base es) m.lit)) (not (is_false (value_in (take left es) m.lit))) s)
-          ]
-          | inr g ↦ or_right (same_lit m.lit p) (is_false (value_in (take base es) m.lit) || not (is_false (value_in (take left es) m.lit)))
-              (or_right (is_false (value_in (take base es) m.lit)) (not (is_false (value_in (take left es) m.lit))) (ap not g))
-        ]
+use Rattle.svr_cdcl.specs.Walk.{Walk}
+use Rattle.svr_cdcl.proofs.Walk.{walk-begins, walk-skips, walk-resolves, walk-decides, begins-clause, skips-clause, resolves-clause, pivot-has, own, false-one}
+use Rattle.svr_cdcl.proofs.Apart.{last-from, last-to}
+use Rattle.svr_cdcl.proofs.Needless.{needless-false, needless-unit}
 
 -- what the walk back to one literal of the level keeps
 pub record AnalysisKeeps (ks : List (List Lit)) (es : List Entry) (base number : ℕ) (ms : List Entry) (links : List Link) (left : ℕ) : Type 0 where
@@ -205,42 +122,23 @@ module _ (ks : List (List Lit)) (es : List Entry) (base number : ℕ) (ms : List
 
   -- where the pivot is the last literal of the level
   module _ (m : is_marked ms e.lit.var ≡ true) (l : is_last es base left p ms ≡ true) where
-    but : is_false_but (take base es) p k.walk.clause ≡ true
-    but = all-from (λ x. same_lit x p || is_false (value_in (take base es) x)) k.walk.clause
-        (λ x h. let b = left-false ks es number ms links left k.walk x h in last-from es base left p ms x k.walk.marks l b.1 b.0)
+    pub minimized-begins : Walk ks es number ms (p ∷ []) links (left - 1)
+    minimized-begins = walk-decides ks es ms number [] links left e k.walk some g o m
 
-    pub asserting-unit : IsUnit (take base es) k.walk.clause p
-    asserting-unit =
+    pub pivot-open : value_in (take base es) p ≡ None
+    pivot-open =
         let n : sign_at (take base es) e.lit.var ≡ None = sign_at-take_none es base (left - 1) e.lit.var (omega (arith, above)) o in
-        (ap (option_map (λ b. same_sign b (not e.lit.neg))) n, pivot-has ks es ms number [] links left e k.walk some g o m, but)
+        ap (option_map (λ b. same_sign b (not e.lit.neg))) n
 
-    pub asserting-same : SameLits k.walk.clause (p ∷ lower_lits es base ms)
-    asserting-same x =
-        iff_eq (has k.walk.clause x) (same_lit p x || has (lower_lits es base ms) x)
-        (λ h.
-        let b = left-false ks es number ms links left k.walk x h in
-        elim (or_cases (same_lit x p) (is_false (value_in (take base es) x)) (last-from es base left p ms x k.walk.marks l b.1 b.0)) [
-          | inl s ↦ or_left (same_lit p x) (has (lower_lits es base ms) x) (ap (same_lit p) (same_lit-true x p s) ∙ lit-self p)
-          | inr s ↦ or_right (same_lit p x) (has (lower_lits es base ms) x) (lower-to es base ms x k.walk.marks s b.1)
-        ])
-        (λ h. elim (or_cases (same_lit p x) (has (lower_lits es base ms) x) h) [
-          | inl s ↦ ap (has k.walk.clause) (sym (same_lit-true p x s)) ∙ pivot-has ks es ms number [] links left e k.walk some g o m
-          | inr s ↦
-              let b = lower-from es base ms x s in
-              k.walk.same x ∙ and_from (is_false (value_in (take left es) x)) (is_marked ms x.var) (false-later es base left x (omega (arith, above)) b.0) b.1
-        ])
+    pub pivot-false : is_false (value_in es p) ≡ true
+    pivot-false = false-whole es left p (own ks es ms number [] links left e k.walk some g o)
 
-    pub asserting-false : is_falsified es k.walk.clause ≡ true
-    asserting-false = all-from (λ x. is_false (value_in es x)) k.walk.clause (λ x h. false-whole es left x (left-false ks es number ms links left k.walk x h).0)
+    module _ (ls : List Link) (c : List Lit) (h : has c p ≡ true) (b : are_below es (left - 1) p ms c ≡ true) where
+      pub lits-false : is_falsified es c ≡ true
+      lits-false = needless-false es base left p ms c k.walk.marks l some h pivot-open pivot-false b
 
-    pub lits-false : is_falsified es (p ∷ lower_lits es base ms) ≡ true
-    lits-false = sym (all-same (λ x. is_false (value_in es x)) k.walk.clause (p ∷ lower_lits es base ms) asserting-same) ∙ asserting-false
+      pub lits-unit : IsUnit (take base es) c p
+      lits-unit = needless-unit es base left p ms c k.walk.marks l some h pivot-open pivot-false b
 
-    pub lits-unit : IsUnit (take base es) (p ∷ lower_lits es base ms) p
-    lits-unit = unit-same (take base es) k.walk.clause (p ∷ lower_lits es base ms) p asserting-same asserting-unit
-
-    pub lits-accepted : IsClosed (take base es) ks → Accepts ks (record { start = number; links = links }) (p ∷ lower_lits es base ms)
-    lits-accepted q =
-        let d : Derives ks (record { start = number; links = links }) (p ∷ lower_lits es base ms)
-        = subst (λ z. SameResult z (Ok (p ∷ lower_lits es base ms))) (sym k.walk.derives) asserting-same in
-        accepted-from ks es base (record { start = number; links = links }) (p ∷ lower_lits es base ms) d lits-false q (p, lits-unit)
+      pub lits-accepted : IsClosed (take base es) ks → Derives ks (record { start = number; links = ls }) c → Accepts ks (record { start = number; links = ls }) c
+      lits-accepted q d = accepted-from ks es base (record { start = number; links = ls }) c d lits-false q (p, lits-unit)

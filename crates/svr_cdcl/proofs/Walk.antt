@@ -18,6 +18,7 @@ use Rattle.svr_trail.specs.Trail.{sign_at, value_in, is_false, is_false_but, For
 use Rattle.svr_trail.proofs.Trails.{sign_at-push_same}
 use Rattle.svr_cdcl.specs.Learned.{Derives, is_kept}
 use Rattle.svr_chain.specs.Same.{SameResult}
+use Rattle.svr_cdcl.specs.Walk.{Walk}
 use Rattle.svr_cdcl.specs.Marks.{AreFalse, IsKept, Marks, begun, is_false_besides, is_marked, touches}
 use Rattle.svr_cdcl.proofs.Chains.{after_links-push, after_link-ok, false-less}
 use Rattle.svr_watch.proofs.Values.{false-later}
@@ -72,15 +73,6 @@ none-marked ms l = goes (sign_at ms l.var)
     goes : (s : Option Bool) → is_none (option_map (λ n. same_sign n l.neg) s) ≡ not (is_some s)
     goes None = refl
     goes (Some b) = refl
-
--- the derived clause so far: what was put out, and the marked literals that are false before a place
-pub record Walk (ks : List (List Lit)) (es : List Entry) (number : ℕ) (ms : List Entry) (out : List Lit) (links : List Link) (left : ℕ) : Type 0 where
-  pub within : left ≤ length es
-  pub marks : AreFalse es ms
-  pub clause : List Lit
-  pub derives : after_links ks (started (named ks number)) links ≡ Ok clause
-  pub same : (x : Lit) → has clause x ≡ (has out x || (is_false (value_in (take left es) x) && is_marked ms x.var))
-  pub apart : (x : Lit) → has out x ≡ true → is_false (value_in (take left es) x) ≡ false
 
 begun-has : (keep : Option Lit) (c : List Lit) (x : Lit) → has c x ≡ true → is_kept keep x ≡ true → has (begun keep c) x ≡ true
 begun-has None c x h k = absurd (false≢true k)
@@ -179,7 +171,7 @@ module _ (ks : List (List Lit)) (es ms : List Entry) (number : ℕ) (out : List 
   more : (x : Lit) → F0 x ≡ true → F1 x ≡ true
   more x h = false-later es (left - 1) left x (omega arith) h
 
-  own : F1 p ≡ true
+  pub own : F1 p ≡ true
   own =
       let s : sign_at (take left es) e.lit.var ≡ Some e.lit.neg = ap (λ z. sign_at z e.lit.var) pushed ∙ sign_at-push_same (take (left - 1) es) e e.lit.var o refl in
       ap (λ z. is_false (option_map (λ n. same_sign n (not e.lit.neg)) z)) s ∙ turned e.lit.neg

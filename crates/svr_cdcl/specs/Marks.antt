@@ -35,10 +35,13 @@ Marks old new keep c = (v : ℕ) → is_marked new v ≡ (is_marked old v || tou
 abbrev pub is_last : List Entry → ℕ → ℕ → Lit → List Entry → Bool
 is_last es base left p ms = list_all (λ m. same_lit m.lit p || (is_false (value_in (take base es) m.lit) || not (is_false (value_in (take left es) m.lit)))) ms
 
--- the marked literals that are false by the first entries
-abbrev pub lower_lits : List Entry → ℕ → List Entry → List Lit
-lower_lits es base [] = []
-lower_lits es base (m ∷ ms) = if is_false (value_in (take base es) m.lit) then m.lit ∷ lower_lits es base ms else lower_lits es base ms
+-- the variables of the literals but the kept one are marked
+abbrev pub are_marked : List Entry → Option Lit → List Lit → Bool
+are_marked ms keep c = list_all (λ x. is_kept keep x || is_marked ms x.var) c
+
+-- each literal but the pivot is marked, and false by the first entries
+abbrev pub are_below : List Entry → ℕ → Lit → List Entry → List Lit → Bool
+are_below es place p ms c = list_all (λ x. same_lit x p || (is_false (value_in (take place es) x) && is_marked ms x.var)) c
 
 -- the last place, if there is one, is below h
 abbrev pub is_before : Option ℕ → ℕ → Bool

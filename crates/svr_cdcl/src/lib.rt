@@ -9,6 +9,7 @@ mod explain;
 mod level;
 mod marks;
 mod memory;
+mod minimize;
 mod search;
 
 pub use analyse::Learned;

@@ -1,11 +1,11 @@
 // The loop of the search: propagate, decide, learn.
 
-ghost use Rattle.std.specs.Prelude.{◌≡◌, ◌+◌, ◌≤◌, ◌<◌, ◌⊎◌, ℕ, true, false, [], IfOk, IfSome, IfNone, IsSome, None, List, length, take};
+ghost use Rattle.std.specs.Prelude.{◌≡◌, ◌+◌, ◌≤◌, ◌<◌, ◌⊎◌, ◌∷◌, ◌++◌, ℕ, true, false, [], IfOk, IfSome, IfNone, IsSome, None, Some, List, length, take};
 ghost use Rattle.svr_chain.specs.declared.clause.Lit.{Lit};
-ghost use Rattle.svr_chain.specs.Clauses.{AreWithin, IsWithin, is_tautology};
-ghost use Rattle.svr_trail.specs.Trail.{sign_at, value_in};
+ghost use Rattle.svr_chain.specs.Clauses.{AreWithin, IsWithin, has, is_tautology};
+ghost use Rattle.svr_trail.specs.Trail.{Each, IsClosed, sign_at, value_in};
 ghost use Rattle.svr_query.specs.Found.{AreSeen, IsAssumed, IsFound};
-ghost use Rattle.svr_query.specs.Logged.{IsLogged, are_true};
+ghost use Rattle.svr_query.specs.Logged.{IsAsked, IsLogged, are_true};
 
 use crate::learn::learn_from;
 use crate::memory::NoMemory;
@@ -117,15 +117,17 @@ pub fn first_open(search: &Search, prefer: &[bool]) -> Option<Lit>
     None
 }
 
-/// The next decision, `None` where every variable is set.
+/// The next decision, `None` where every variable is set. The order is not asked where it has none that is open.
 fn next_open(search: &Search, prefer: &[bool], order: &mut Order) -> Option<Lit>
     requires { length prefer.now ≡ search.now.vars }
     ensures open { IfSome result (λ l. value_in search.now.entries l ≡ None) }
     ensures within { IfSome result (IsWithin search.now.vars) }
     ensures none { IfNone result ((v : ℕ) → v < search.now.vars → IsSome (sign_at search.now.entries (v + 1))) }
 {
-    if let Some(lit) = order.next(search, prefer.len() as u64) {
-        return Some(lit);
+    if search.entries().len() < prefer.len() {
+        if let Some(lit) = order.next(search, prefer.len() as u64) {
+            return Some(lit);
+        }
     }
     first_open(search, prefer)
 }
@@ -140,6 +142,38 @@ pub fn restart(search: &mut Search)
 {
     let _ = search.level();
     search.backjump(0);
+}
+
+/// Begins a level with this literal true.
+pub fn decide(search: &mut Search, lit: Lit)
+    requires within { IsWithin search.old.vars lit }
+    requires open { value_in search.old.entries lit ≡ None }
+    requires closed { IsClosed search.old.entries search.old.clauses }
+    ensures decided { search.new ≡ record search.old {
+      entries = search.old.entries ++ record { lit = lit; reason = None } ∷ [];
+      ends = search.old.ends ++ length search.old.entries ∷ [];
+    } }
+    ensures bound { length search.new.entries ≤ search.new.vars }
+{
+    search.decide(lit);
+    let _ = search.level();
+}
+
+/// The refutation that an assumed literal gives which is false.
+pub fn refuted_by(search: &Search, assume: &[Lit], lit: Lit) -> Result<Found, NoMemory>
+    requires apart { is_tautology assume.now ≡ false }
+    requires assumed { has assume.now lit ≡ true }
+    requires denied { value_in search.now.entries lit ≡ Some false }
+    requires asked { Each (IsAsked assume.now) search.now.entries }
+    ensures found { IfOk result (IsFound search.now assume.now) }
+    ensures answers { IfOk result (λ r. r ≡ Found.Spent → ⊥) }
+{
+    let denied = lit.flipped();
+    let Some(number) = search.reason(denied) else {
+        unreachable!()
+    };
+    let explained = search.explain(number, Some(denied))?;
+    Ok(Found::Refuted(explained))
 }
 
 /// Decides, propagates and learns until there is an answer, or just `budget` steps were made.
@@ -190,24 +224,11 @@ pub fn run(
                 }
             }
             None => match next_unseen(search, assume, &mut seen) {
-                Assumed::Decide(lit) => {
-                    search.decide(lit);
-                    let _ = search.level();
-                }
-                Assumed::Denied(lit) => {
-                    let denied = lit.flipped();
-                    let Some(number) = search.reason(denied) else {
-                        unreachable!()
-                    };
-                    let explained = search.explain(number, Some(denied))?;
-                    return Ok(Found::Refuted(explained));
-                }
+                Assumed::Decide(lit) => decide(search, lit),
+                Assumed::Denied(lit) => return refuted_by(search, assume, lit),
                 Assumed::Done => match next_open(search, prefer, &mut order) {
                     None => return Ok(Found::Satisfied),
-                    Some(lit) => {
-                        search.decide(lit);
-                        let _ = search.level();
-                    }
+                    Some(lit) => decide(search, lit),
                 },
             },
         }

@@ -8,7 +8,7 @@ ghost use Rattle.svr_query.specs.Logged.{IsLogged};
 
 use crate::memory::NoMemory;
 use crate::propagate::propagate;
-use crate::run::{Assumed, Found, first_open, next_assumed, restart};
+use crate::run::{Assumed, Found, decide, first_open, next_assumed, refuted_by, restart};
 use svr_cdcl::Search;
 use svr_chain::{Clause, Lit, Step, are_denied};
 
@@ -72,27 +72,14 @@ pub fn sweep(
                 steps.push_reserved(explained.step);
             }
             None => match next_assumed(search, assume) {
-                Assumed::Decide(lit) => {
-                    search.decide(lit);
-                    let _ = search.level();
-                }
-                Assumed::Denied(lit) => {
-                    let denied = lit.flipped();
-                    let Some(number) = search.reason(denied) else {
-                        unreachable!()
-                    };
-                    let explained = search.explain(number, Some(denied))?;
-                    return Ok(Found::Refuted(explained));
-                }
+                Assumed::Decide(lit) => decide(search, lit),
+                Assumed::Denied(lit) => return refuted_by(search, assume, lit),
                 Assumed::Done => match first_open(search, prefer) {
                     None => {
                         let _ = search.level();
                         return Ok(Found::Satisfied);
                     }
-                    Some(lit) => {
-                        search.decide(lit);
-                        let _ = search.level();
-                    }
+                    Some(lit) => decide(search, lit),
                 },
             },
         }

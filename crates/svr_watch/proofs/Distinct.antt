@@ -23,7 +23,7 @@ codes-none = record { same = λ x. refl; apart = λ j k p q e. omega arith }
 in-at : (xs : List ℕ) (j : ℕ) → j < length xs → is_in (get_or xs j 0) xs ≡ true
 in-at xs j h = list_any_at (λ x. nat_eq (get_or xs j 0) x) xs j 0 h (eq-eqb (get_or xs j 0) (get_or xs j 0) refl)
 
-has-push : (ls : List Lit) (l x : Lit) → has (ls ++ l ∷ []) x ≡ (has ls x || (same_lit l x || false))
+pub has-push : (ls : List Lit) (l x : Lit) → has (ls ++ l ∷ []) x ≡ (has ls x || (same_lit l x || false))
 has-push ls l x = list_any-append (λ z. same_lit z x) ls (l ∷ [])
 
 -- a literal more, whose number is new
@@ -49,7 +49,7 @@ codes-new xs ls l pos k n = record {
       ];
 }
 
-in-has : (xs : List ℕ) (n : ℕ) → is_in n xs ≡ true → has (map lit_of xs) (lit_of n) ≡ true
+pub in-has : (xs : List ℕ) (n : ℕ) → is_in n xs ≡ true → has (map lit_of xs) (lit_of n) ≡ true
 in-has [] n h = absurd (false≢true h)
 in-has (x ∷ xs) n h =
     elim (or_cases (nat_eq n x) (is_in n xs) h) [
@@ -57,7 +57,7 @@ in-has (x ∷ xs) n h =
       | inr e ↦ or_right (same_lit (lit_of x) (lit_of n)) (has (map lit_of xs) (lit_of n)) (in-has xs n e)
     ]
 
-or-more : (a b : Bool) → (b ≡ true → a ≡ true) → a ≡ (a || (b || false))
+pub or-more : (a b : Bool) → (b ≡ true → a ≡ true) → a ≡ (a || (b || false))
 or-more true b f = refl
 or-more false true f = absurd (false≢true (f refl))
 or-more false false f = refl

@@ -9,6 +9,7 @@ pub mod Levels
 pub mod Learning
 pub mod Bound
 pub mod Distinct
+pub mod Marked
 pub mod Adding
 pub mod Fresh
 pub mod Ranking

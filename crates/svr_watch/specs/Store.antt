@@ -77,6 +77,11 @@ pub record AreCodes (xs : List ℕ) (ls : List Lit) : Type 0 where
   pub same : SameLits (map lit_of xs) ls
   pub apart : (j k : ℕ) → j < k → k < length xs → slice_index xs j ≡ slice_index xs k → ⊥
 
+-- the numbers of the literals of a clause that is no tautology, each once
+pub record ArePlainCodes (xs : List ℕ) (ls : List Lit) : Type 0 where
+  pub codes : AreCodes xs ls
+  pub plain : is_tautology ls ≡ false
+
 -- a clause is a tautology or has fewer than two distinct literals
 abbrev pub IsApart : List Lit → Type 0
 IsApart k = (is_tautology k ≡ true) ⊎ (is_short k ≡ true)

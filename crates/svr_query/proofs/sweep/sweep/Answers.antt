@@ -175,34 +175,34 @@ pub sweep-smaller-in-Decide : goal.sweep-smaller-in-Decide
 sweep-smaller-in-Decide c =
     let first = c.sweep.search in
     let s = c.propagate.new.search in
-    let t = c.decide.new.self in
+    let t = c.decide.new.search in
     let assume = c.args.assume.now in
     let n : ℕ = length c.args.prefer.now in
     let e : Entry = record { lit = c.in-Decide.lit; reason = None } in
-    let k : t.clauses ≡ s.clauses = ap (λ z. z.clauses) c.decide.ensures in
-    let m : t.entries ≡ s.entries ++ e ∷ [] = ap (λ z. z.entries) c.decide.ensures in
-    let v : t.vars ≡ s.vars = ap (λ z. z.vars) c.decide.ensures in
+    let k : t.clauses ≡ s.clauses = ap (λ z. z.clauses) c.decide.ensures.decided in
+    let m : t.entries ≡ s.entries ++ e ∷ [] = ap (λ z. z.entries) c.decide.ensures.decided in
+    let v : t.vars ≡ s.vars = ap (λ z. z.vars) c.decide.ensures.decided in
     let p : s.vars ≡ first.vars = ap (λ z. z.vars) c.propagate.ensures.kept in
     let same : open_nodes first.clauses assume 0 n ≡ open_nodes s.clauses assume 0 n = nodes-same first.clauses s.clauses assume 0 n c.propagate.ensures.same in
     let now : open_nodes t.clauses assume 0 n ≡ open_nodes s.clauses assume 0 n = ap (λ z. open_nodes z assume 0 n) k in
     let len : length t.entries ≡ length s.entries + 1 = ap (λ z. length z) m ∙ length_push s.entries e in
     let more : length first.entries < length t.entries = omega (arith, len, c.propagate.ensures.grown.longer) in
     one_decision_more (open_nodes t.clauses assume 0 n) (open_nodes first.clauses assume 0 n) t.vars first.vars (length t.entries) (length first.entries)
-    (now ∙ sym same) (v ∙ p) more c.level-in-Decide.ensures.bound
+    (now ∙ sym same) (v ∙ p) more c.decide.ensures.bound
 
 pub sweep-preserved-in-Decide : goal.sweep-preserved-in-Decide
 sweep-preserved-in-Decide c =
     let i = c.sweep.invariant in
     let first = c.sweep.search in
     let s = c.propagate.new.search in
-    let t = c.decide.new.self in
+    let t = c.decide.new.search in
     let assume = c.args.assume.now in
     let n : ℕ = length c.args.prefer.now in
     let l : Lit = c.in-Decide.lit in
     let e : Entry = record { lit = l; reason = None } in
-    let k : t.clauses ≡ s.clauses = ap (λ z. z.clauses) c.decide.ensures in
-    let m : t.entries ≡ s.entries ++ e ∷ [] = ap (λ z. z.entries) c.decide.ensures in
-    let v : t.vars ≡ s.vars = ap (λ z. z.vars) c.decide.ensures in
+    let k : t.clauses ≡ s.clauses = ap (λ z. z.clauses) c.decide.ensures.decided in
+    let m : t.entries ≡ s.entries ++ e ∷ [] = ap (λ z. z.entries) c.decide.ensures.decided in
+    let v : t.vars ≡ s.vars = ap (λ z. z.vars) c.decide.ensures.decided in
     let p : s.vars ≡ first.vars = ap (λ z. z.vars) c.propagate.ensures.kept in
     let same : open_nodes first.clauses assume 0 n ≡ open_nodes s.clauses assume 0 n = nodes-same first.clauses s.clauses assume 0 n c.propagate.ensures.same in
     let now : open_nodes t.clauses assume 0 n ≡ open_nodes s.clauses assume 0 n = ap (λ z. open_nodes z assume 0 n) k in
@@ -219,27 +219,12 @@ sweep-preserved-in-Decide c =
       swept = rw m b;
     }
 
-pub unreachable-requires : goal.unreachable-requires
-unreachable-requires c =
-    let i = c.sweep.invariant in
+pub refuted_by-requires-clause-asked : goal.refuted_by-requires-clause-asked
+refuted_by-requires-clause-asked c =
     let s = c.propagate.new.search in
     let assume = c.args.assume.now in
     let n : ℕ = length c.args.prefer.now in
-    let l : Lit = c.in-Denied.lit in
-    let sw : Each (IsSwept n assume) s.entries = swept-grown n assume s.clauses c.sweep.search.entries s.entries i.swept c.propagate.ensures.grown in
-    let a : Each (IsAsked assume) s.entries = swept-asked n assume s.entries sw in
-    let h : has assume l ≡ true = c.in-Denied.ensures.0 in
-    let f : value_in s.entries l ≡ Some false = c.in-Denied.ensures.1 in
-    let d : (x : Lit) → is_decided s.entries x ≡ true → has assume x ≡ true = decided-has assume s.entries a (never-true assume s.entries l h f) in
-    let q : reason_in s.entries (flip l) ≡ None = ap (reason_in s.entries) (sym c.flipped-denied.ensures) ∙ (sym c.reason.ensures.reason ∙ c.in_default.is) in
-    reason-there assume s.entries l c.requires.apart h f d q
-
-pub returns-in_err-explained-in-Denied-clause-logged : goal.returns-in_err-explained-in-Denied-clause-logged
-returns-in_err-explained-in-Denied-clause-logged c =
-    logged-same c.args.cnf.now c.sweep.steps.items c.sweep.search c.propagate.new.search c.sweep.invariant.logged c.propagate.ensures.same
-
-pub returns-in_err-explained-in-Denied-clause-few : goal.returns-in_err-explained-in-Denied-clause-few
-returns-in_err-explained-in-Denied-clause-few c = omega (arith, c.sweep.invariant.few)
+    swept-asked n assume s.entries (swept-grown n assume s.clauses c.sweep.search.entries s.entries c.sweep.invariant.swept c.propagate.ensures.grown)
 
 pub returns-in-Denied-clause-logged : goal.returns-in-Denied-clause-logged
 returns-in-Denied-clause-logged c =
@@ -247,22 +232,6 @@ returns-in-Denied-clause-logged c =
 
 pub returns-in-Denied-clause-few : goal.returns-in-Denied-clause-few
 returns-in-Denied-clause-few c = omega (arith, c.sweep.invariant.few)
-
-pub returns-in-Denied-clause-found : goal.returns-in-Denied-clause-found
-returns-in-Denied-clause-found c =
-    let i = c.sweep.invariant in
-    let s = c.propagate.new.search in
-    let assume = c.args.assume.now in
-    let n : ℕ = length c.args.prefer.now in
-    let l : Lit = c.in-Denied.lit in
-    let sw : Each (IsSwept n assume) s.entries = swept-grown n assume s.clauses c.sweep.search.entries s.entries i.swept c.propagate.ensures.grown in
-    let a : Each (IsAsked assume) s.entries = swept-asked n assume s.entries sw in
-    let h : has assume l ≡ true = c.in-Denied.ensures.0 in
-    let f : value_in s.entries l ≡ Some false = c.in-Denied.ensures.1 in
-    let d : (x : Lit) → is_decided s.entries x ≡ true → has assume x ≡ true = decided-has assume s.entries a (never-true assume s.entries l h f) in
-    let r = c.in_ok-explained-in-Denied in
-    let q : is_explained s.entries (Some (flip l)) r.explained.lits ≡ true = rw c.flipped-denied.ensures at r.ensures.explained in
-    (r.ensures.derives, denied-from assume s.entries (Some (flip l)) r.explained.lits d (λ x k. kept-flip assume l x h k) q)
 
 pub returns-in-None-first_open-clause-logged : goal.returns-in-None-first_open-clause-logged
 returns-in-None-first_open-clause-logged c =
@@ -292,34 +261,34 @@ pub sweep-smaller : goal.sweep-smaller
 sweep-smaller c =
     let first = c.sweep.search in
     let s = c.propagate.new.search in
-    let t = c.decide-in-Some-first_open.new.self in
+    let t = c.decide-in-Some-first_open.new.search in
     let assume = c.args.assume.now in
     let n : ℕ = length c.args.prefer.now in
     let e : Entry = record { lit = c.in-Some-first_open.lit; reason = None } in
-    let k : t.clauses ≡ s.clauses = ap (λ z. z.clauses) c.decide-in-Some-first_open.ensures in
-    let m : t.entries ≡ s.entries ++ e ∷ [] = ap (λ z. z.entries) c.decide-in-Some-first_open.ensures in
-    let v : t.vars ≡ s.vars = ap (λ z. z.vars) c.decide-in-Some-first_open.ensures in
+    let k : t.clauses ≡ s.clauses = ap (λ z. z.clauses) c.decide-in-Some-first_open.ensures.decided in
+    let m : t.entries ≡ s.entries ++ e ∷ [] = ap (λ z. z.entries) c.decide-in-Some-first_open.ensures.decided in
+    let v : t.vars ≡ s.vars = ap (λ z. z.vars) c.decide-in-Some-first_open.ensures.decided in
     let p : s.vars ≡ first.vars = ap (λ z. z.vars) c.propagate.ensures.kept in
     let same : open_nodes first.clauses assume 0 n ≡ open_nodes s.clauses assume 0 n = nodes-same first.clauses s.clauses assume 0 n c.propagate.ensures.same in
     let now : open_nodes t.clauses assume 0 n ≡ open_nodes s.clauses assume 0 n = ap (λ z. open_nodes z assume 0 n) k in
     let len : length t.entries ≡ length s.entries + 1 = ap (λ z. length z) m ∙ length_push s.entries e in
     let more : length first.entries < length t.entries = omega (arith, len, c.propagate.ensures.grown.longer) in
     one_decision_more (open_nodes t.clauses assume 0 n) (open_nodes first.clauses assume 0 n) t.vars first.vars (length t.entries) (length first.entries)
-    (now ∙ sym same) (v ∙ p) more c.level-in-Some-first_open.ensures.bound
+    (now ∙ sym same) (v ∙ p) more c.decide-in-Some-first_open.ensures.bound
 
 pub sweep-preserved : goal.sweep-preserved
 sweep-preserved c =
     let i = c.sweep.invariant in
     let first = c.sweep.search in
     let s = c.propagate.new.search in
-    let t = c.decide-in-Some-first_open.new.self in
+    let t = c.decide-in-Some-first_open.new.search in
     let assume = c.args.assume.now in
     let n : ℕ = length c.args.prefer.now in
     let l : Lit = c.in-Some-first_open.lit in
     let e : Entry = record { lit = l; reason = None } in
-    let k : t.clauses ≡ s.clauses = ap (λ z. z.clauses) c.decide-in-Some-first_open.ensures in
-    let m : t.entries ≡ s.entries ++ e ∷ [] = ap (λ z. z.entries) c.decide-in-Some-first_open.ensures in
-    let v : t.vars ≡ s.vars = ap (λ z. z.vars) c.decide-in-Some-first_open.ensures in
+    let k : t.clauses ≡ s.clauses = ap (λ z. z.clauses) c.decide-in-Some-first_open.ensures.decided in
+    let m : t.entries ≡ s.entries ++ e ∷ [] = ap (λ z. z.entries) c.decide-in-Some-first_open.ensures.decided in
+    let v : t.vars ≡ s.vars = ap (λ z. z.vars) c.decide-in-Some-first_open.ensures.decided in
     let p : s.vars ≡ first.vars = ap (λ z. z.vars) c.propagate.ensures.kept in
     let same : open_nodes first.clauses assume 0 n ≡ open_nodes s.clauses assume 0 n = nodes-same first.clauses s.clauses assume 0 n c.propagate.ensures.same in
     let now : open_nodes t.clauses assume 0 n ≡ open_nodes s.clauses assume 0 n = ap (λ z. open_nodes z assume 0 n) k in
