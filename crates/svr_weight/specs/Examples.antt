@@ -1,14 +1,14 @@
 -- Weights that were worked out by hand.
-use Rattle.std.specs.Prelude.{◌==◌, ℕ, pos, Bool, true, false, List, [], ◌∷◌, None, Some}
+use Rattle.std.specs.Prelude.{◌==◌, ℕ, pos, Bool, false, List, [], ◌∷◌}
 use Rattle.svr_operator.specs.declared.UnOp.TheVariants as un
 use Rattle.svr_operator.specs.declared.BinOp.TheVariants as bin
 use Rattle.svr_operator.specs.declared.Fold.TheVariants as fold
 use Rattle.svr_operator.specs.declared.Rand.TheVariants as rand
 use Rattle.svr_typed.specs.declared.class.ArrayKind.TheVariants as array
 use Rattle.svr_typed.specs.declared.class.Prop.{Prop}
-use Rattle.svr_typed.specs.ExprTerm.{ExprTerm, typed, prop, element, cell, loop_index, reduce, bit_select, exprs_of, one}
-use Rattle.svr_typed.specs.ItemTerm.{ItemTerm, plain, unique, implies, branch, foreach, disable, items_of, no_else, else_items}
-use Rattle.svr_eval.specs.Examples.{form, int, u8, of1, of2, if_else, among, from_to, weighed}
+use Rattle.svr_typed.specs.ExprTerm.{ExprTerm, typed, cell, loop_index, reduce, bit_select, exprs_of, one}
+use Rattle.svr_typed.specs.ItemTerm.{ItemTerm, unique, implies, branch, foreach, disable, items_of, else_items}
+use Rattle.svr_eval.specs.Examples.{form, int, u8, of1, of2, if_else, among, from_to}
 use Rattle.svr_frame.specs.declared.part.Part.{Part}
 use Rattle.svr_frame.specs.declared.part.Part.TheVariants.{Randc, Sizes, All}
 use Rattle.svr_frame.specs.Frame.{FrameTerm}

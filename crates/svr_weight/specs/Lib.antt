@@ -1,3 +1,4 @@
 pub mod Costs
 pub mod Weighing
+pub mod Tallied
 pub mod Examples

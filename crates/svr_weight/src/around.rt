@@ -1,6 +1,6 @@
 // What stands around an item as far as its weight needs it: the tests, and what they and the loops mention.
 
-ghost use Rattle.std.specs.Prelude.{◌≡◌, ◌≤◌, ◌+◌, ◌-◌, ◌^◌};
+ghost use Rattle.std.specs.Prelude.{◌≡◌, ◌≤◌, ◌+◌, ◌-◌, ◌^◌, false};
 ghost use Rattle.svr_typed.specs.ExprTerm.{expr_term};
 ghost use Rattle.svr_typed.specs.ItemTerm.{dist_terms};
 ghost use Rattle.svr_eval.specs.Typed.{IsTyped};
@@ -35,6 +35,12 @@ pub(crate) struct Around {
 }
 
 impl Mentions {
+    pub(crate) fn new(wanted: bool, barred: bool) -> Mentions
+        ensures { result ≡ record { wanted = wanted; barred = barred } }
+    {
+        Mentions { wanted, barred }
+    }
+
     pub(crate) fn joined(self, other: Mentions) -> Mentions
         ensures { result ≡ spec.joined self other }
     {
@@ -132,7 +138,7 @@ fn tested(tests: Option<Tests>, own: u128, width: u8) -> Tests
 }
 
 /// What an expression of this weight and width weighs under tests.
-fn guarded_weight(tests: Option<Tests>, own: u128, width: u8) -> u128
+pub(crate) fn guarded_weight(tests: Option<Tests>, own: u128, width: u8) -> u128
     ensures { result ≡ capped (spec.guarded_weight tests own width) }
 {
     match tests {
@@ -194,6 +200,13 @@ impl Around {
             mentions: self.mentions.joined(mentioned_by(test, frame, part)),
             in_loop: self.in_loop,
         }
+    }
+
+    /// Whether a hard item counts here that mentions this.
+    pub(crate) fn counts(self, mentions: Mentions, part: Part) -> bool
+        ensures { result ≡ spec.is_counted part false self.in_loop (spec.joined self.mentions mentions) }
+    {
+        is_counted(part, false, self.in_loop, self.mentions.joined(mentions))
     }
 
     /// What an item of this weight and width weighs here, 0 where it does not count.

@@ -1,7 +1,7 @@
 // What an expression weighs: a measure of the clauses that it becomes.
 
 ghost use Rattle.std.specs.Prelude.{◌≡◌, ◌||◌, slice_index, ◌≤◌, ◌+◌, ◌*◌, pos};
-ghost use Rattle.svr_typed.specs.ExprTerm.{expr_term, expr_terms, range_term, range_terms, bound_term, element as element_term, bit_select as bit_select_term, unary as unary_term, binary as binary_term};
+ghost use Rattle.svr_typed.specs.ExprTerm.{expr_term, expr_terms, range_term, range_terms, bound_term, element as element_term, bit_select as bit_select_term, part_select as part_select_term, choice as choice_term, inside as inside_term, copies as copies_term, unary as unary_term, binary as binary_term};
 ghost use Rattle.svr_typed.specs.ItemTerm.{dist_terms};
 ghost use Rattle.svr_eval.specs.Typed.{IsTyped, AreTyped, RangesAreTyped, RangeIsTyped, BoundIsTyped};
 ghost use Rattle.svr_eval.specs.Holds.{MembersAreTyped};
@@ -109,23 +109,11 @@ pub(crate) fn cost(e: &TExpr, width: u8, frame: &Frame, part: Part, sizes: &[u32
         | TNode::Size(..)
         | TNode::Script(_)
         | TNode::Loop(_) => 1,
-        TNode::Element(prop, index) => {
-            element_cost(*prop, index.get(), e.width, frame, part, sizes)
+        TNode::Element(prop, at) => element_cost(*prop, at.get(), e.width, frame, part, sizes),
+        TNode::Cell(p, _, first, second) => {
+            cell_cost(*p, first.get(), second.get(), e.width, frame, part, sizes)
         }
-        TNode::Cell(prop, _, first, second) => {
-            cell_cost(
-                *prop,
-                first.get(),
-                second.get(),
-                e.width,
-                frame,
-                part,
-                sizes,
-            )
-        }
-        TNode::Reduce(prop, op, body) => {
-            reduction_cost(*prop, *op, body.get(), frame, part, sizes)
-        }
+        TNode::Reduce(prop, op, body) => reduce_cost(*prop, *op, body.get(), frame, part, sizes),
         TNode::Of(_, inner) => cost(inner.get(), width, frame, part, sizes),
         TNode::Select {
             base,
@@ -134,35 +122,19 @@ pub(crate) fn cost(e: &TExpr, width: u8, frame: &Frame, part: Part, sizes: &[u32
             ..
         } => match last {
             None => bit_cost(base.get(), first.get(), frame, part, sizes),
-            Some(last) => {
-                let bounds = add(
-                    own_cost(first.get(), frame, part, sizes),
-                    own_cost(last.get(), frame, part, sizes),
-                );
-                add(add(1, own_cost(base.get(), frame, part, sizes)), bounds)
-            }
+            Some(last) => bits_cost(base.get(), first.get(), last.get(), frame, part, sizes),
         },
         TNode::Unary { op, arg } => unary_cost(*op, arg.get(), width, frame, part, sizes),
         TNode::Binary { op, left, right } => {
             binary_cost(*op, left.get(), right.get(), width, frame, part, sizes)
         }
         TNode::Choice { test, yes, no } => {
-            let tested = add(u128::from(width), own_cost(test.get(), frame, part, sizes));
-            let chosen = add(
-                cost(yes.get(), width, frame, part, sizes),
-                cost(no.get(), width, frame, part, sizes),
-            );
-            add(tested, chosen)
+            choice_cost(test.get(), yes.get(), no.get(), width, frame, part, sizes)
         }
-        TNode::Inside { left, set } => {
-            let left = left.get();
-            let members = ranges_cost(set.as_slice(), left.width, frame, part, sizes);
-            add(own_cost(left, frame, part, sizes), members)
-        }
+        TNode::Inside { left, set } => inside_cost(set.as_slice(), left.get(), frame, part, sizes),
         TNode::Join { parts } => add(1, exprs_cost(parts.as_slice(), frame, part, sizes)),
         TNode::Copies { count, parts } => {
-            let counted = add(1, own_cost(count.get(), frame, part, sizes));
-            add(counted, exprs_cost(parts.as_slice(), frame, part, sizes))
+            copies_cost(parts.as_slice(), count.get(), frame, part, sizes)
         }
         TNode::Sign { arg, .. } => add(1, own_cost(arg.get(), frame, part, sizes)),
     }
@@ -228,14 +200,7 @@ fn step_cost(op: Fold, body: &TExpr, frame: &Frame, part: Part, sizes: &[u32]) -
 /// An array reduction (IEEE 1800-2017, 7.12.3): a step for each element.
 #[cycle(cost)]
 #[tactic(auto, using(crate::proofs::Caps::mul_capped))]
-fn reduction_cost(
-    prop: u32,
-    op: Fold,
-    body: &TExpr,
-    frame: &Frame,
-    part: Part,
-    sizes: &[u32],
-) -> u128
+fn reduce_cost(prop: u32, op: Fold, body: &TExpr, frame: &Frame, part: Part, sizes: &[u32]) -> u128
     requires { IsTyped (expr_term body.now) }
     ensures { result ≡ capped (slice_index sizes.now prop * spec.step_cost (frame_term frame.now) part sizes.now op (expr_term body.now)) }
 {
@@ -260,6 +225,75 @@ fn bit_cost(base: &TExpr, first: &TExpr, frame: &Frame, part: Part, sizes: &[u32
         own_cost(first, frame, part, sizes),
     );
     add(own, parts)
+}
+
+/// A part-select (IEEE 1800-2017, 11.5.1).
+#[cycle(cost)]
+fn bits_cost(
+    base: &TExpr,
+    first: &TExpr,
+    last: &TExpr,
+    frame: &Frame,
+    part: Part,
+    sizes: &[u32],
+) -> u128
+    requires base_typed { IsTyped (expr_term base.now) }
+    requires first_typed { IsTyped (expr_term first.now) }
+    requires last_typed { IsTyped (expr_term last.now) }
+    ensures { result ≡ capped (spec.node_cost (frame_term frame.now) part sizes.now 0 (part_select_term (expr_term base.now) (expr_term first.now) (expr_term last.now) (pos 0)) 0) }
+{
+    let bounds = add(
+        own_cost(first, frame, part, sizes),
+        own_cost(last, frame, part, sizes),
+    );
+    add(add(1, own_cost(base, frame, part, sizes)), bounds)
+}
+
+/// A conditional expression (IEEE 1800-2017, 11.4.11).
+#[cycle(cost)]
+fn choice_cost(
+    test: &TExpr,
+    yes: &TExpr,
+    no: &TExpr,
+    width: u8,
+    frame: &Frame,
+    part: Part,
+    sizes: &[u32],
+) -> u128
+    requires test_typed { IsTyped (expr_term test.now) }
+    requires yes_typed { IsTyped (expr_term yes.now) }
+    requires no_typed { IsTyped (expr_term no.now) }
+    requires high { width ≤ 64 }
+    ensures { result ≡ capped (spec.node_cost (frame_term frame.now) part sizes.now 0 (choice_term (expr_term test.now) (expr_term yes.now) (expr_term no.now)) width) }
+{
+    let tested = add(u128::from(width), own_cost(test, frame, part, sizes));
+    let chosen = add(
+        cost(yes, width, frame, part, sizes),
+        cost(no, width, frame, part, sizes),
+    );
+    add(tested, chosen)
+}
+
+/// A set and what may be in it (IEEE 1800-2017, 11.4.13).
+#[cycle(cost)]
+fn inside_cost(set: &[TRange], left: &TExpr, frame: &Frame, part: Part, sizes: &[u32]) -> u128
+    requires set_typed { RangesAreTyped (range_terms set.now) }
+    requires left_typed { IsTyped (expr_term left.now) }
+    ensures { result ≡ capped (spec.node_cost (frame_term frame.now) part sizes.now 0 (inside_term (expr_term left.now) (range_terms set.now)) 0) }
+{
+    let members = ranges_cost(set, left.width, frame, part, sizes);
+    add(own_cost(left, frame, part, sizes), members)
+}
+
+/// A replication (IEEE 1800-2017, 11.4.12.1).
+#[cycle(cost)]
+fn copies_cost(parts: &[TExpr], count: &TExpr, frame: &Frame, part: Part, sizes: &[u32]) -> u128
+    requires parts_typed { AreTyped (expr_terms parts.now) }
+    requires count_typed { IsTyped (expr_term count.now) }
+    ensures { result ≡ capped (spec.node_cost (frame_term frame.now) part sizes.now 0 (copies_term (expr_term count.now) (expr_terms parts.now)) 0) }
+{
+    let counted = add(1, own_cost(count, frame, part, sizes));
+    add(counted, exprs_cost(parts, frame, part, sizes))
 }
 
 #[cycle(cost)]

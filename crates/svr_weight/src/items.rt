@@ -1,137 +1,20 @@
 // What constraint items weigh, without their occurrences one by one.
 
 ghost use Rattle.std.specs.Prelude.{◌≡◌, ◌≤◌, ◌+◌, ◌-◌, ◌*◌, ◌/◌, ◌^◌, option_map};
-ghost use Rattle.svr_typed.specs.ExprTerm.{expr_term, expr_terms};
+ghost use Rattle.svr_typed.specs.ExprTerm.{expr_term};
 ghost use Rattle.svr_typed.specs.ItemTerm.{item_term, item_terms, dist_terms};
-ghost use Rattle.svr_eval.specs.Typed.{IsTyped, AreTyped};
+ghost use Rattle.svr_eval.specs.Typed.{IsTyped};
 ghost use Rattle.svr_eval.specs.Holds.{DistIsTyped, MembersAreTyped, ItemIsTyped, ItemsAreTyped};
 ghost use Rattle.svr_frame.specs.Frame.{frame_term};
 ghost use Rattle.svr_frame.specs.Weight.{capped};
 ghost use Rattle.svr_weight.specs.Weighing as spec;
 
 use crate::around::{Around, members_mention, mentioned_by};
-use crate::cost::{add, array_of, members_cost, own_cost, pair_cost, times};
+use crate::cost::{add, members_cost, own_cost, times};
+use crate::unique::unique_weight;
 use sqlite_items::Items;
 use svr_frame::{Frame, Part, size_at};
 use svr_typed::{TDistItem, TExpr, TItem};
-
-/// How many members of `unique` an expression stands for (IEEE 1800-2017, 18.5.5).
-fn member_count(e: &TExpr, frame: &Frame, sizes: &[u32]) -> u32
-    ensures { result ≡ spec.member_count (frame_term frame.now) sizes.now (expr_term e.now) }
-{
-    match array_of(e, frame) {
-        Some(array) => size_at(sizes, array),
-        None => 1,
-    }
-}
-
-/// One pair of two members of `unique`.
-#[tactic(auto, using(crate::proofs::Caps::leaf_capped))]
-fn pair_weight(
-    x: &TExpr,
-    y: &TExpr,
-    around: Around,
-    frame: &Frame,
-    part: Part,
-    sizes: &[u32],
-) -> u128
-    requires x_typed { IsTyped (expr_term x.now) }
-    requires y_typed { IsTyped (expr_term y.now) }
-    ensures { result ≡ capped (spec.pair_weight (frame_term frame.now) part sizes.now around (expr_term x.now) (expr_term y.now)) }
-{
-    let both = mentioned_by(x, frame, part).joined(mentioned_by(y, frame, part));
-    around.leaf_weight(false, both, pair_cost(x, y, frame, part, sizes), 1, part)
-}
-
-/// One pair of `x` with each member that `y` stands for.
-#[tactic(auto, using(crate::proofs::Caps::mul_capped))]
-fn pairs_weight(
-    x: &TExpr,
-    y: &TExpr,
-    around: Around,
-    frame: &Frame,
-    part: Part,
-    sizes: &[u32],
-) -> u128
-    requires x_typed { IsTyped (expr_term x.now) }
-    requires y_typed { IsTyped (expr_term y.now) }
-    ensures { result ≡ capped (spec.pairs_weight (frame_term frame.now) part sizes.now around (expr_term x.now) (expr_term y.now)) }
-{
-    let count = u128::from(member_count(y, frame, sizes));
-    times(count, pair_weight(x, y, around, frame, part, sizes))
-}
-
-/// One pair of `x` with each of the others.
-fn against_weight(
-    x: &TExpr,
-    others: &[TExpr],
-    around: Around,
-    frame: &Frame,
-    part: Part,
-    sizes: &[u32],
-) -> u128
-    requires x_typed { IsTyped (expr_term x.now) }
-    requires typed { AreTyped (expr_terms others.now) }
-    ensures { result ≡ capped (spec.against_weight (frame_term frame.now) part sizes.now around (expr_term x.now) (expr_terms others.now)) }
-{
-    let mut sum = 0;
-    for y in others {
-        sum = add(sum, pairs_weight(x, y, around, frame, part, sizes));
-    }
-    sum
-}
-
-/// How many pairs so many members make.
-#[tactic(auto, using(crate::proofs::Caps::pair_number_is))]
-fn pair_count(members: u32) -> u128
-    ensures { result ≡ spec.pair_number members }
-{
-    let members = u128::from(members);
-    members * members.saturating_sub(1) / 2
-}
-
-/// The pairs of the members that `x` stands for, with one another and with those of the others.
-#[tactic(auto, using(crate::proofs::Caps::mul_capped))]
-fn group_weight(
-    x: &TExpr,
-    others: &[TExpr],
-    around: Around,
-    frame: &Frame,
-    part: Part,
-    sizes: &[u32],
-) -> u128
-    requires x_typed { IsTyped (expr_term x.now) }
-    requires typed { AreTyped (expr_terms others.now) }
-    ensures { result ≡ capped (spec.group_weight (frame_term frame.now) part sizes.now around (expr_term x.now) (expr_terms others.now)) }
-{
-    let count = member_count(x, frame, sizes);
-    let each = pair_weight(x, x, around, frame, part, sizes);
-    let against = against_weight(x, others, around, frame, part, sizes);
-    add(
-        times(pair_count(count), each),
-        times(u128::from(count), against),
-    )
-}
-
-/// `unique` (IEEE 1800-2017, 18.5.5): each two of its members, where an array stands for its elements.
-fn unique_weight(
-    members: &[TExpr],
-    around: Around,
-    frame: &Frame,
-    part: Part,
-    sizes: &[u32],
-) -> u128
-    requires { AreTyped (expr_terms members.now) }
-    ensures { result ≡ capped (spec.unique_weight (frame_term frame.now) part sizes.now around (expr_terms members.now)) }
-{
-    let mut sum = 0;
-    let mut left = members;
-    while let [x, others @ ..] = left {
-        sum = add(sum, group_weight(x, others, around, frame, part, sizes));
-        left = others;
-    }
-    sum
-}
 
 /// An expression, or with `dist` a distribution (IEEE 1800-2017, 18.5.4).
 #[tactic(auto, using(crate::proofs::Caps::leaf_capped))]

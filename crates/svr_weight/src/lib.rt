@@ -6,6 +6,8 @@ mod cost;
 mod examples;
 mod items;
 mod phase;
+mod tally;
+mod unique;
 
 pub use examples::weights_are_as_worked_out;
 pub use phase::weight;

@@ -38,11 +38,23 @@ decreases-cell_cost l = 8 * max (size-TExpr l.first.now) (size-TExpr l.second.no
 abbrev pub decreases-step_cost : goal.decreases-step_cost
 decreases-step_cost l = 8 * size-TExpr l.body.now + 3
 
-abbrev pub decreases-reduction_cost : goal.decreases-reduction_cost
-decreases-reduction_cost l = 8 * size-TExpr l.body.now + 4
+abbrev pub decreases-reduce_cost : goal.decreases-reduce_cost
+decreases-reduce_cost l = 8 * size-TExpr l.body.now + 4
 
 abbrev pub decreases-bit_cost : goal.decreases-bit_cost
 decreases-bit_cost l = 8 * max (size-TExpr l.base.now) (size-TExpr l.first.now) + 3
+
+abbrev pub decreases-bits_cost : goal.decreases-bits_cost
+decreases-bits_cost l = 8 * max (size-TExpr l.base.now) (max (size-TExpr l.first.now) (size-TExpr l.last.now)) + 3
+
+abbrev pub decreases-choice_cost : goal.decreases-choice_cost
+decreases-choice_cost l = 8 * max (size-TExpr l.test.now) (max (size-TExpr l.yes.now) (size-TExpr l.no.now)) + 3
+
+abbrev pub decreases-inside_cost : goal.decreases-inside_cost
+decreases-inside_cost l = 8 * max (goal.size-inside_cost l) (size-TExpr l.left.now) + 7
+
+abbrev pub decreases-copies_cost : goal.decreases-copies_cost
+decreases-copies_cost l = 8 * max (goal.size-copies_cost l) (size-TExpr l.count.now) + 7
 
 abbrev pub decreases-unary_cost : goal.decreases-unary_cost
 decreases-unary_cost l = 8 * size-TExpr l.x.now + 3

@@ -1,4 +1,4 @@
-use Rattle.std.proofs.Common.{◌≡◌, ◌==◌, ◌∙◌, refl, true}
+use Rattle.std.proofs.Common.{◌==◌, ◌∙◌, refl}
 use Rattle.std.specs.List.{list_all}
 use Rattle.svr_weight.specs.Examples.{Case, cases}
 use Rattle.svr_weight.proofs.Domains.{phase_weighed}

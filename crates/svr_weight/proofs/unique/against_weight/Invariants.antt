@@ -4,7 +4,7 @@ use Rattle.svr_eval.specs.Typed.{AreTyped}
 use Rattle.svr_frame.specs.Frame.{frame_term}
 use Rattle.svr_frame.specs.Weight.{capped}
 use Rattle.svr_weight.specs.Weighing as spec
-use Rattle.svr_weight.proofs.items.against_weight.Given as goal
+use Rattle.svr_weight.proofs.unique.against_weight.Given as goal
 
 abbrev pub invariant-loop-y : goal.invariant-loop-y
 invariant-loop-y l = record {

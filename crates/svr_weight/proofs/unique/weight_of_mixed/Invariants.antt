@@ -4,7 +4,7 @@ use Rattle.svr_eval.specs.Typed.{AreTyped}
 use Rattle.svr_frame.specs.Frame.{frame_term}
 use Rattle.svr_frame.specs.Weight.{capped}
 use Rattle.svr_weight.specs.Weighing as spec
-use Rattle.svr_weight.proofs.items.unique_weight.Given as goal
+use Rattle.svr_weight.proofs.unique.weight_of_mixed.Given as goal
 
 abbrev pub invariant-loop-left : goal.invariant-loop-left
 invariant-loop-left l = record {
