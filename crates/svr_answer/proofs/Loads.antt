@@ -10,6 +10,7 @@ use Rattle.svr_load.specs.Script.{load_text}
 use Rattle.svr_typed.specs.StmtTerm.{DesignTerm}
 use Rattle.svr_phase.specs.declared.options.Options.{Options}
 use Rattle.svr_script.specs.Printed.{Event}
+use Rattle.svr_script.specs.Conflicts.{HaveConflicts}
 use Rattle.svr_script.specs.Run as script
 use Rattle.svr_script.specs.Run.{State, IsRun, IsSoFar, counts_of, journal_of}
 use Rattle.svr_script.specs.Ending.{Output}
@@ -17,7 +18,7 @@ use Rattle.svr_run_budget_laws.proofs.Along.{script_over_many}
 use Rattle.svr_run.specs.declared.progress.Counts.{Counts}
 use Rattle.svr_run.specs.declared.run.End.TheVariants as at_end
 use Rattle.svr_run.specs.declared.stop.Stop.TheVariants as stop
-use Rattle.svr_run.specs.Telling.{Sinks, HasCounts}
+use Rattle.svr_run.specs.Telling.{Sinks, HasCounts, no_extra}
 use Rattle.svr_run.specs.Reached.{Stops}
 use Rattle.svr_run.specs.Ends as run
 use Rattle.svr_refused.specs.Texts.{HasDesign, IsRefused}
@@ -107,20 +108,20 @@ module _ (count : ℕ) (opts : Options) where
     -- ---- to its end
 
     -- what is said with a status
-    ends_with : (n : Counts) (es : List Event) (t : State) (s : Status) → IsRun d opts es t → t.limited ≡ false → HasCounts n es → HasStatus n s
+    ends_with : (n : Counts) (es : List Event) (t : State) (s : Status) → IsRun d opts es t → t.limited ≡ false → HasCounts n es → HaveConflicts false opts.budget es → HasStatus n s
         → LoadAnswers count opts s (record { printed = load_line count (counts_of es); journal = journal_of es })
-    ends_with n es t AllOne is_run free counts (zeros, given_up) =
-        record { design = d; read = read; events = es; state = t; run = is_run; many = script_over_many d opts es t is_run.so_far; ending_is = (free, sym counts.zeros ∙ zeros, sym counts.given_up ∙ given_up); output_is = refl }
-    ends_with n es t SomeZero is_run free counts (zeros, given_up) =
-        record { design = d; read = read; events = es; state = t; run = is_run; many = script_over_many d opts es t is_run.so_far; ending_is = (free, subst (λ (k : ℕ). 0 < k) counts.zeros zeros, sym counts.given_up ∙ given_up); output_is = refl }
-    ends_with n es t SomeGivenUp is_run free counts given_up =
-        record { design = d; read = read; events = es; state = t; run = is_run; many = script_over_many d opts es t is_run.so_far; ending_is = (free, subst (λ (k : ℕ). 0 < k) counts.given_up given_up); output_is = refl }
-    ends_with n es t Usage is_run free counts none = absurd none
-    ends_with n es t Refused is_run free counts none = absurd none
-    ends_with n es t Limited is_run free counts none = absurd none
-    ends_with n es t ReadFault is_run free counts none = absurd none
-    ends_with n es t WriteFault is_run free counts none = absurd none
-    ends_with n es t NoMemory is_run free counts none = absurd none
+    ends_with n es t AllOne is_run free counts conflicts (zeros, given_up) =
+        record { design = d; read = read; events = es; state = t; run = is_run; conflicts = conflicts; many = script_over_many d opts es t is_run.so_far; ending_is = (free, sym counts.zeros ∙ zeros, sym counts.given_up ∙ given_up); output_is = refl }
+    ends_with n es t SomeZero is_run free counts conflicts (zeros, given_up) =
+        record { design = d; read = read; events = es; state = t; run = is_run; conflicts = conflicts; many = script_over_many d opts es t is_run.so_far; ending_is = (free, subst (λ (k : ℕ). 0 < k) counts.zeros zeros, sym counts.given_up ∙ given_up); output_is = refl }
+    ends_with n es t SomeGivenUp is_run free counts conflicts given_up =
+        record { design = d; read = read; events = es; state = t; run = is_run; conflicts = conflicts; many = script_over_many d opts es t is_run.so_far; ending_is = (free, subst (λ (k : ℕ). 0 < k) counts.given_up given_up); output_is = refl }
+    ends_with n es t Usage is_run free counts conflicts none = absurd none
+    ends_with n es t Refused is_run free counts conflicts none = absurd none
+    ends_with n es t Limited is_run free counts conflicts none = absurd none
+    ends_with n es t ReadFault is_run free counts conflicts none = absurd none
+    ends_with n es t WriteFault is_run free counts conflicts none = absurd none
+    ends_with n es t NoMemory is_run free counts conflicts none = absurd none
 
     -- all of it was written
     all_written : (n : Counts) (s : Status) (output : Output) (old new : Sinks) → HasStatus n s → LoadAnswers count opts s output
@@ -141,23 +142,23 @@ module _ (count : ℕ) (opts : Options) where
     status_no_write : (n : Counts) (s : Status) → HasStatus n s → s ≡ WriteFault → ⊥
     status_no_write n s has e = subst (λ (x : Status). HasStatus n x) e has
 
-    pub ended_answers : (n : Counts) (status : Status) (before after : Sinks) (old new : Option (List ℕ)) (was now : ℕ) → run.Ends d opts (at_end.Ended n) before after → Told count n status old was new now
+    pub ended_answers : (n : Counts) (status : Status) (before after : Sinks) (old new : Option (List ℕ)) (was now : ℕ) → run.Ends d opts no_extra (at_end.Ended n) before after → Told count n status old was new now
         → LoadAnswered count opts status (record { out = old; journal = before.journal; out_faults = was; journal_faults = before.journal_faults }) (record { out = new; journal = after.journal; out_faults = now; journal_faults = after.journal_faults })
-    ended_answers n status before after old new was now (es, t, is_run, free, counts, tells) (inl (has, all), later) = record {
-      writing = all_written n status (record { printed = load_line count (counts_of es); journal = journal_of es }) _ _ has (ends_with n es t status is_run free counts has)
+    ended_answers n status before after old new was now (es, t, is_run, free, counts, conflicts, tells) (inl (has, all), later) = record {
+      writing = all_written n status (record { printed = load_line count (counts_of es); journal = journal_of es }) _ _ has (ends_with n es t status is_run free counts conflicts has)
           (subst (λ (m : script.Counts). Appends old new (load_line count m)) (same_totals n es counts) all) tells.logged;
       nothing_read = status_no_read n status has;
       cause = λ f. absurd (status_no_write n status has f);
       out_later = later;
       journal_later = no_less before.journal_faults after.journal_faults tells.journal_kept;
     }
-    ended_answers n status before after old new was now (es, t, is_run, free, counts, tells) (inr (inl (e, front, rose)), later) =
+    ended_answers n status before after old new was now (es, t, is_run, free, counts, conflicts, tells) (inr (inl (e, front, rose)), later) =
         let some : (s : Status) × HasStatus n s = some_status n n.zeros n.given_up refl refl in
         subst (λ (s : Status). LoadAnswered count opts s (record { out = old; journal = before.journal; out_faults = was; journal_faults = before.journal_faults }) (record { out = new; journal = after.journal; out_faults = now; journal_faults = after.journal_faults })) (sym e)
         (record {
           writing = (
             record { printed = load_line count (counts_of es); journal = journal_of es },
-            inl (some.0, ends_with n es t some.0 is_run free counts some.1),
+            inl (some.0, ends_with n es t some.0 is_run free counts conflicts some.1),
             subst (λ (m : script.Counts). AppendsFront old new (load_line count m)) (same_totals n es counts) front,
             front_of_all before.journal after.journal (journal_of es) tells.logged,
           );
@@ -166,13 +167,13 @@ module _ (count : ℕ) (opts : Options) where
           out_later = later;
           journal_later = no_less before.journal_faults after.journal_faults tells.journal_kept;
         })
-    ended_answers n status before after old new was now (es, t, is_run, free, counts, tells) (inr (inr (e, kept)), later) =
+    ended_answers n status before after old new was now (es, t, is_run, free, counts, conflicts, tells) (inr (inr (e, kept)), later) =
         let some : (s : Status) × HasStatus n s = some_status n n.zeros n.given_up refl refl in
         subst (λ (s : Status). LoadAnswered count opts s (record { out = old; journal = before.journal; out_faults = was; journal_faults = before.journal_faults }) (record { out = new; journal = after.journal; out_faults = now; journal_faults = after.journal_faults })) (sym e)
         (record {
           writing = inr (
             record { printed = load_line count (counts_of es); journal = journal_of es },
-            inl (some.0, ends_with n es t some.0 is_run free counts some.1),
+            inl (some.0, ends_with n es t some.0 is_run free counts conflicts some.1),
             kept_front old new (load_line count (counts_of es)) kept,
             front_of_all before.journal after.journal (journal_of es) tells.logged,
           );
@@ -182,12 +183,12 @@ module _ (count : ℕ) (opts : Options) where
           journal_later = no_less before.journal_faults after.journal_faults tells.journal_kept;
         })
 
-    pub limit_answers : (before after : Sinks) (out : Option (List ℕ)) (faults : ℕ) → run.Ends d opts at_end.Limit before after
+    pub limit_answers : (before after : Sinks) (out : Option (List ℕ)) (faults : ℕ) → run.Ends d opts no_extra at_end.Limit before after
         → LoadAnswered count opts Limited (record { out = out; journal = before.journal; out_faults = faults; journal_faults = before.journal_faults }) (record { out = out; journal = after.journal; out_faults = faults; journal_faults = after.journal_faults })
-    limit_answers before after out faults (es, t, is_run, met, tells) = record {
+    limit_answers before after out faults (es, t, is_run, met, conflicts, tells) = record {
       writing = (
         record { printed = []; journal = journal_of es },
-        record { design = d; read = read; events = es; state = t; run = is_run; many = script_over_many d opts es t is_run.so_far; ending_is = met; output_is = refl },
+        record { design = d; read = read; events = es; state = t; run = is_run; conflicts = conflicts; many = script_over_many d opts es t is_run.so_far; ending_is = met; output_is = refl },
         Appends-nil out,
         tells.logged,
       );
@@ -199,13 +200,13 @@ module _ (count : ℕ) (opts : Options) where
 
     -- ---- cut off
 
-    begun : (es : List Event) (t : State) → IsSoFar d opts es t → LoadBegins count opts (record { printed = []; journal = journal_of es })
-    begun es t so_far = record { design = d; read = read; events = es; state = t; so_far = so_far; many = script_over_many d opts es t so_far; output_is = refl }
+    begun : (es : List Event) (t : State) → IsSoFar d opts es t → HaveConflicts false opts.budget es → LoadBegins count opts (record { printed = []; journal = journal_of es })
+    begun es t so_far conflicts = record { design = d; read = read; events = es; state = t; so_far = so_far; conflicts = conflicts; many = script_over_many d opts es t so_far; output_is = refl }
 
-    pub cut_for_memory : (before after : Sinks) (out : Option (List ℕ)) (faults : ℕ) → Stops d opts before stop.NoMemory after
+    pub cut_for_memory : (before after : Sinks) (out : Option (List ℕ)) (faults : ℕ) → Stops d opts no_extra before stop.NoMemory after
         → LoadAnswered count opts NoMemory (record { out = out; journal = before.journal; out_faults = faults; journal_faults = before.journal_faults }) (record { out = out; journal = after.journal; out_faults = faults; journal_faults = after.journal_faults })
-    cut_for_memory before after out faults (es, t, so_far, tells) = record {
-      writing = inr (record { printed = []; journal = journal_of es }, inr (begun es t so_far), (0, Appends-nil out), tells.logged);
+    cut_for_memory before after out faults (es, t, so_far, conflicts, tells) = record {
+      writing = inr (record { printed = []; journal = journal_of es }, inr (begun es t so_far conflicts), (0, Appends-nil out), tells.logged);
       nothing_read = memory_no_read;
       cause = λ f. absurd (memory_no_write f);
       out_later = omega arith;
@@ -213,10 +214,10 @@ module _ (count : ℕ) (opts : Options) where
     }
 
     -- where the lines go no sink fails, so it is the journal that did
-    pub cut_by_fault : (before after : Sinks) (out : Option (List ℕ)) (faults : ℕ) → (Rose before.out_faults after.out_faults → ⊥) → Stops d opts before stop.WriteFault after
+    pub cut_by_fault : (before after : Sinks) (out : Option (List ℕ)) (faults : ℕ) → (Rose before.out_faults after.out_faults → ⊥) → Stops d opts no_extra before stop.WriteFault after
         → LoadAnswered count opts WriteFault (record { out = out; journal = before.journal; out_faults = faults; journal_faults = before.journal_faults }) (record { out = out; journal = after.journal; out_faults = faults; journal_faults = after.journal_faults })
-    cut_by_fault before after out faults quiet (es, t, so_far, tells, failed) = record {
-      writing = (record { printed = []; journal = journal_of es }, inr (begun es t so_far), (0, Appends-nil out), tells.logged);
+    cut_by_fault before after out faults quiet (es, t, so_far, conflicts, tells, failed) = record {
+      writing = (record { printed = []; journal = journal_of es }, inr (begun es t so_far conflicts), (0, Appends-nil out), tells.logged);
       nothing_read = fault_no_read;
       cause = λ f. elim failed [
         | inl rose ↦ absurd (quiet rose)

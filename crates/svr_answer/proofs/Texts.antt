@@ -6,9 +6,9 @@ use Rattle.std.proofs.KnownBytes.{Keeps-refl}
 use Rattle.svr_edge.specs.Known.{AppendsFront, Takes}
 use Rattle.svr_edge.specs.Causes.{Rose}
 use Rattle.svr_limits.specs.declared.limit.TheConstants.{TEXT_LIMIT}
-use Rattle.svr_phase.specs.declared.options.Options.{Options}
 use Rattle.svr_refusal.specs.declared.refusal.Refusal.TheVariants as refusal
 use Rattle.svr_run.specs.Telling.{Sinks}
+use Rattle.svr_words.specs.declared.request.Run.{Run}
 use Rattle.svr_refused.specs.Texts.{IsRefused}
 use Rattle.svr_status.specs.Lines.{refused_at, nowhere}
 use Rattle.svr_status.specs.Writing.{prints, Writing, HasRead, HasReadText}
@@ -21,19 +21,19 @@ use Rattle.svr_answer.specs.Answers.{too_long, refused, Answers, MayTell}
 use Rattle.svr_answer.specs.Parts.{Answered}
 
 -- the line of a refusal is the answer to a text
-pub refusal_answers : (opts : Options) (text line : List ℕ) (result : Status) (old new journal : Option (List ℕ)) (was now logged : ℕ)
+pub refusal_answers : (asked : Run) (text line : List ℕ) (result : Status) (old new journal : Option (List ℕ)) (was now logged : ℕ)
     → length text ≤ TEXT_LIMIT → IsRefused text line
     → ((result ≡ Refused) × Appends old new line) ⊎ ((result ≡ WriteFault) × AppendsFront old new line × Rose was now) → was ≤ now
-    → Answered opts text result (record { out = old; journal = journal; out_faults = was; journal_faults = logged }) (record { out = new; journal = journal; out_faults = now; journal_faults = logged })
-refusal_answers opts text line result old new journal was now logged small why (inl (e, all)) later = record {
-  writing = refusal_is_written (Answers opts text) (MayTell opts text) line result old new journal was now logged ⊤ (refused line small why refl) (inl (Refused, refused line small why refl)) (inl (e, all));
+    → Answered asked text result (record { out = old; journal = journal; out_faults = was; journal_faults = logged }) (record { out = new; journal = journal; out_faults = now; journal_faults = logged })
+refusal_answers asked text line result old new journal was now logged small why (inl (e, all)) later = record {
+  writing = refusal_is_written (Answers asked text) (MayTell asked text) line result old new journal was now logged ⊤ (refused line small why refl) (inl (Refused, refused line small why refl)) (inl (e, all));
   was_read = λ f. refused_no_read (sym e ∙ f);
   cause = λ f. absurd (refused_no_write (sym e ∙ f));
   out_later = later;
   journal_later = omega arith;
 }
-refusal_answers opts text line result old new journal was now logged small why (inr (e, front, rose)) later = record {
-  writing = refusal_is_written (Answers opts text) (MayTell opts text) line result old new journal was now logged (Rose was now) (refused line small why refl) (inl (Refused, refused line small why refl)) (inr (inl (e, front, rose)));
+refusal_answers asked text line result old new journal was now logged small why (inr (e, front, rose)) later = record {
+  writing = refusal_is_written (Answers asked text) (MayTell asked text) line result old new journal was now logged (Rose was now) (refused line small why refl) (inl (Refused, refused line small why refl)) (inr (inl (e, front, rose)));
   was_read = λ f. fault_no_read (sym e ∙ f);
   cause = λ f. inl rose;
   out_later = later;
@@ -41,8 +41,8 @@ refusal_answers opts text line result old new journal was now logged small why (
 }
 
 -- nothing was answered for want of memory
-pub nothing_answers : (opts : Options) (text : List ℕ) (now : Sinks) → Answered opts text NoMemory now now
-nothing_answers opts text now = record {
+pub nothing_answers : (asked : Run) (text : List ℕ) (now : Sinks) → Answered asked text NoMemory now now
+nothing_answers asked text now = record {
   writing = inl (Keeps-refl now.out, Keeps-refl now.journal);
   was_read = memory_no_read;
   cause = λ f. absurd (memory_no_write f);
@@ -53,50 +53,50 @@ nothing_answers opts text now = record {
 -- ---- how far it was read
 
 -- the answer to a text comes once it was read to its end
-pub answer_read : (opts : Options) (text : List ℕ) (status : Status) (now later : Sinks) (old new : Option (List ℕ)) → Answered opts text status now later → IsAtEnd new → HasRead TEXT_LIMIT status old new
-answer_read opts text AllOne now later old new answered end = end
-answer_read opts text SomeZero now later old new answered end = end
-answer_read opts text SomeGivenUp now later old new answered end = end
-answer_read opts text Limited now later old new answered end = end
-answer_read opts text Refused now later old new answered end = inl end
-answer_read opts text Usage now later old new answered end = absurd answered.writing.1
-answer_read opts text ReadFault now later old new answered end = tt
-answer_read opts text WriteFault now later old new answered end = tt
-answer_read opts text NoMemory now later old new answered end = tt
+pub answer_read : (asked : Run) (text : List ℕ) (status : Status) (now later : Sinks) (old new : Option (List ℕ)) → Answered asked text status now later → IsAtEnd new → HasRead TEXT_LIMIT status old new
+answer_read asked text AllOne now later old new answered end = end
+answer_read asked text SomeZero now later old new answered end = end
+answer_read asked text SomeGivenUp now later old new answered end = end
+answer_read asked text Limited now later old new answered end = end
+answer_read asked text Refused now later old new answered end = inl end
+answer_read asked text Usage now later old new answered end = absurd answered.writing.1
+answer_read asked text ReadFault now later old new answered end = tt
+answer_read asked text WriteFault now later old new answered end = tt
+answer_read asked text NoMemory now later old new answered end = tt
 
-pub answer_read_text : (opts : Options) (text : List ℕ) (status : Status) (now later : Sinks) (all : List ℕ) (old new : Option (List ℕ))
-    → Answered opts text status now later → length all ≤ TEXT_LIMIT → IsAtEnd new → HasReadText TEXT_LIMIT all status old new
-answer_read_text opts text AllOne now later all old new answered small end = end
-answer_read_text opts text SomeZero now later all old new answered small end = end
-answer_read_text opts text SomeGivenUp now later all old new answered small end = end
-answer_read_text opts text Limited now later all old new answered small end = end
-answer_read_text opts text Refused now later all old new answered small end = inl (small, end)
-answer_read_text opts text Usage now later all old new answered small end = absurd answered.writing.1
-answer_read_text opts text ReadFault now later all old new answered small end = tt
-answer_read_text opts text WriteFault now later all old new answered small end = tt
-answer_read_text opts text NoMemory now later all old new answered small end = tt
+pub answer_read_text : (asked : Run) (text : List ℕ) (status : Status) (now later : Sinks) (all : List ℕ) (old new : Option (List ℕ))
+    → Answered asked text status now later → length all ≤ TEXT_LIMIT → IsAtEnd new → HasReadText TEXT_LIMIT all status old new
+answer_read_text asked text AllOne now later all old new answered small end = end
+answer_read_text asked text SomeZero now later all old new answered small end = end
+answer_read_text asked text SomeGivenUp now later all old new answered small end = end
+answer_read_text asked text Limited now later all old new answered small end = end
+answer_read_text asked text Refused now later all old new answered small end = inl (small, end)
+answer_read_text asked text Usage now later all old new answered small end = absurd answered.writing.1
+answer_read_text asked text ReadFault now later all old new answered small end = tt
+answer_read_text asked text WriteFault now later all old new answered small end = tt
+answer_read_text asked text NoMemory now later all old new answered small end = tt
 
-pub answer_no_usage : (opts : Options) (text : List ℕ) (status : Status) (now later : Sinks) → Answered opts text status now later → status ≡ Usage → ⊥
-answer_no_usage opts text status now later answered e = (subst (λ s. Answered opts text s now later) e answered).writing.1
+pub answer_no_usage : (asked : Run) (text : List ℕ) (status : Status) (now later : Sinks) → Answered asked text status now later → status ≡ Usage → ⊥
+answer_no_usage asked text status now later answered e = (subst (λ s. Answered asked text s now later) e answered).writing.1
 
 -- ---- over a source that tells its text
 
 -- one byte past the limit was taken
-pub long_told : (o left : Option (List ℕ)) (opts : Options) (result : Status) (old new journal : Option (List ℕ)) (was now logged : ℕ) (R : Type 0)
+pub long_told : (o left : Option (List ℕ)) (asked : Run) (result : Status) (old new journal : Option (List ℕ)) (was now logged : ℕ) (R : Type 0)
     → Takes o left (TEXT_LIMIT + 1)
     → ((result ≡ Refused) × Appends old new (refused_at nowhere refusal.TooLong)) ⊎ (((result ≡ WriteFault) × AppendsFront old new (refused_at nowhere refusal.TooLong) × R) ⊎ ((result ≡ NoMemory) × Keeps old new))
-    → IfSome o (λ text. Writing (Answers opts text) (MayTell opts text) result (record { out = old; journal = journal; out_faults = was; journal_faults = logged }) (record { out = new; journal = journal; out_faults = now; journal_faults = logged }))
-long_told o left opts result old new journal was now logged R taken ends =
-    if_told o (λ text. Writing (Answers opts text) (MayTell opts text) result (record { out = old; journal = journal; out_faults = was; journal_faults = logged }) (record { out = new; journal = journal; out_faults = now; journal_faults = logged }))
+    → IfSome o (λ text. Writing (Answers asked text) (MayTell asked text) result (record { out = old; journal = journal; out_faults = was; journal_faults = logged }) (record { out = new; journal = journal; out_faults = now; journal_faults = logged }))
+long_told o left asked result old new journal was now logged R taken ends =
+    if_told o (λ text. Writing (Answers asked text) (MayTell asked text) result (record { out = old; journal = journal; out_faults = was; journal_faults = logged }) (record { out = new; journal = journal; out_faults = now; journal_faults = logged }))
     (λ text told.
     let long : TEXT_LIMIT + 1 ≤ length text = read_some o left text (TEXT_LIMIT + 1) told taken in
     let more : TEXT_LIMIT < length text = omega arith in
-    refusal_is_written (Answers opts text) (MayTell opts text) (refused_at nowhere refusal.TooLong) result old new journal was now logged R (too_long more refl) (inl (Refused, too_long more refl)) ends)
+    refusal_is_written (Answers asked text) (MayTell asked text) (refused_at nowhere refusal.TooLong) result old new journal was now logged R (too_long more refl) (inl (Refused, too_long more refl)) ends)
 
 -- the text was read to its end
-pub answer_told : (o left : Option (List ℕ)) (opts : Options) (all seen : List ℕ) (result : Status) (old new : Sinks)
-    → Consumes o left all → IsAtEnd left → seen ≡ all → Answered opts seen result old new → IfSome o (λ text. Writing (Answers opts text) (MayTell opts text) result old new)
-answer_told o left opts all seen result old new taken end is answered =
-    if_told o (λ text. Writing (Answers opts text) (MayTell opts text) result old new) (λ text told.
+pub answer_told : (o left : Option (List ℕ)) (asked : Run) (all seen : List ℕ) (result : Status) (old new : Sinks)
+    → Consumes o left all → IsAtEnd left → seen ≡ all → Answered asked seen result old new → IfSome o (λ text. Writing (Answers asked text) (MayTell asked text) result old new)
+answer_told o left asked all seen result old new taken end is answered =
+    if_told o (λ text. Writing (Answers asked text) (MayTell asked text) result old new) (λ text told.
     let same : text ≡ all = read_all o left text all told taken end in
-    subst (λ (t : List ℕ). Writing (Answers opts t) (MayTell opts t) result old new) (sym (same ∙ sym is)) answered.writing)
+    subst (λ (t : List ℕ). Writing (Answers asked t) (MayTell asked t) result old new) (sym (same ∙ sym is)) answered.writing)

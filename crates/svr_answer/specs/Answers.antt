@@ -6,6 +6,7 @@ use Rattle.svr_phase.specs.declared.options.Options.{Options}
 use Rattle.svr_script.specs.Ending as ending
 use Rattle.svr_script.specs.Ending.{Output}
 use Rattle.svr_load.specs.Script.{load_text}
+use Rattle.svr_words.specs.declared.request.Run.{Run}
 use Rattle.svr_status.specs.Lines.{refused_at, nowhere}
 use Rattle.svr_status.specs.Writing.{prints}
 use Rattle.svr_status.specs.declared.status.Status.{Status}
@@ -18,21 +19,21 @@ pub data Refuses (text : List ℕ) (output : Output) : Type 0 where
   too_long : TEXT_LIMIT < length text → output ≡ prints (refused_at nowhere refusal.TooLong) → Refuses text output
   refused : (line : List ℕ) → length text ≤ TEXT_LIMIT → IsRefused text line → output ≡ prints line → Refuses text output
 
--- a run with these options over this text ends with this status and has this to write
-abbrev pub Answers : Options → List ℕ → Status → Output → Type 0
-Answers opts text AllOne output = (length text ≤ TEXT_LIMIT) × Ends opts text ending.AllOne output
-Answers opts text SomeZero output = (length text ≤ TEXT_LIMIT) × Ends opts text ending.SomeZero output
-Answers opts text SomeGivenUp output = (length text ≤ TEXT_LIMIT) × Ends opts text ending.SomeGivenUp output
-Answers opts text Limited output = (length text ≤ TEXT_LIMIT) × Ends opts text ending.Limited output
-Answers opts text Refused output = Refuses text output
-Answers opts text Usage output = ⊥
-Answers opts text ReadFault output = ⊥
-Answers opts text WriteFault output = ⊥
-Answers opts text NoMemory output = ⊥
+-- this run over this text ends with this status and has this to write
+abbrev pub Answers : Run → List ℕ → Status → Output → Type 0
+Answers asked text AllOne output = (length text ≤ TEXT_LIMIT) × Ends asked text ending.AllOne output
+Answers asked text SomeZero output = (length text ≤ TEXT_LIMIT) × Ends asked text ending.SomeZero output
+Answers asked text SomeGivenUp output = (length text ≤ TEXT_LIMIT) × Ends asked text ending.SomeGivenUp output
+Answers asked text Limited output = (length text ≤ TEXT_LIMIT) × Ends asked text ending.Limited output
+Answers asked text Refused output = Refuses text output
+Answers asked text Usage output = ⊥
+Answers asked text ReadFault output = ⊥
+Answers asked text WriteFault output = ⊥
+Answers asked text NoMemory output = ⊥
 
 -- it may be cut off once it has told this: an answer, or what a run so far tells, which owes no end
-abbrev pub MayTell : Options → List ℕ → Output → Type 0
-MayTell opts text output = ((status : Status) × Answers opts text status output) ⊎ ((length text ≤ TEXT_LIMIT) × Begins opts text output)
+abbrev pub MayTell : Run → List ℕ → Output → Type 0
+MayTell asked text output = ((status : Status) × Answers asked text status output) ⊎ ((length text ≤ TEXT_LIMIT) × Begins asked text output)
 
 -- a load of so many classes ends with this status and has this to write
 abbrev pub LoadAnswers : ℕ → Options → Status → Output → Type 0

@@ -1,35 +1,46 @@
 -- How a run of a text ends, and what it tells.
-use Rattle.std.specs.Prelude.{◌≡◌, ℕ, List, []}
+use Rattle.std.specs.Prelude.{◌≡◌, ℕ, false, List, []}
 use Rattle.svr_typed.specs.StmtTerm.{DesignTerm}
 use Rattle.svr_phase.specs.declared.options.Options.{Options}
 use Rattle.svr_script.specs.Printed.{Event}
-use Rattle.svr_script.specs.Run.{State, IsRun, IsSoFar, Counts, counts_of, journal_of}
+use Rattle.svr_script.specs.Conflicts.{HaveConflicts}
+use Rattle.svr_script.specs.Run.{State, IsRun, IsSoFar, Printing, Counts, counts_of, journal_of}
 use Rattle.svr_script.specs.Ending as ending
 use Rattle.svr_script.specs.Ending.{Ending, HasEnding, Output, output_of, RunEnds}
 use Rattle.svr_run_budget_laws.specs.Runs.{CallsGiveUpOverMany}
+use Rattle.svr_run.specs.declared.extra.Extra.{Extra}
 use Rattle.svr_run.specs.Telling.{printing_of}
 use Rattle.svr_load.specs.Script.{load_text}
+use Rattle.svr_words.specs.declared.request.Run.{Run}
 use Rattle.svr_refused.specs.Texts.{HasDesign}
 use Rattle.svr_answer.specs.Lines.{load_line}
 
 -- ---- runs of a text's script
 
+-- what is told beside the lines, where its flags were used
+abbrev pub extra_of : Run → Extra
+extra_of asked = record { conflicts = asked.conflicts; lrat = asked.lrat }
+
+abbrev pub printing : Run → Printing
+printing asked = printing_of asked.opts (extra_of asked)
+
 -- A run comes to its end, and this is what it has to write. Each question that was given up is over many bits for the budget.
-pub record Ends (opts : Options) (text : List ℕ) (ending : Ending) (output : Output) : Type 0 where
+pub record Ends (asked : Run) (text : List ℕ) (ending : Ending) (output : Output) : Type 0 where
   pub design : DesignTerm
   pub read : HasDesign text design
-  pub run : RunEnds design opts (printing_of opts) ending output
-  pub many : CallsGiveUpOverMany opts run.events
+  pub run : RunEnds design asked.opts (printing asked) ending output
+  pub many : CallsGiveUpOverMany asked.opts run.events
 
 -- a run has come this far, and this is what its calls tell
-pub record Begins (opts : Options) (text : List ℕ) (output : Output) : Type 0 where
+pub record Begins (asked : Run) (text : List ℕ) (output : Output) : Type 0 where
   pub design : DesignTerm
   pub read : HasDesign text design
   pub events : List Event
   pub state : State
-  pub so_far : IsSoFar design opts events state
-  pub many : CallsGiveUpOverMany opts events
-  pub output_is : output ≡ output_of (printing_of opts) events
+  pub so_far : IsSoFar design asked.opts events state
+  pub conflicts : HaveConflicts asked.conflicts asked.opts.budget events
+  pub many : CallsGiveUpOverMany asked.opts events
+  pub output_is : output ≡ output_of (printing asked) events
 
 -- ---- loads
 
@@ -47,6 +58,7 @@ pub record LoadEnds (count : ℕ) (opts : Options) (how : Ending) (output : Outp
   pub events : List Event
   pub state : State
   pub run : IsRun design opts events state
+  pub conflicts : HaveConflicts false opts.budget events
   pub many : CallsGiveUpOverMany opts events
   pub ending_is : HasEnding state (counts_of events) how
   pub output_is : output ≡ record { printed = summary count (counts_of events) how; journal = journal_of events }
@@ -58,5 +70,6 @@ pub record LoadBegins (count : ℕ) (opts : Options) (output : Output) : Type 0 
   pub events : List Event
   pub state : State
   pub so_far : IsSoFar design opts events state
+  pub conflicts : HaveConflicts false opts.budget events
   pub many : CallsGiveUpOverMany opts events
   pub output_is : output ≡ record { printed = []; journal = journal_of events }

@@ -8,6 +8,7 @@ use Rattle.svr_script.specs.Run as script
 use Rattle.svr_phase.specs.declared.options.Options.{Options}
 use Rattle.svr_run.specs.declared.progress.Counts.{Counts}
 use Rattle.svr_run.specs.Telling.{Sinks, SinkFailed}
+use Rattle.svr_words.specs.declared.request.Run.{Run}
 use Rattle.svr_status.specs.Writing.{Writing}
 use Rattle.svr_status.specs.declared.status.Status.{Status}
 use Rattle.svr_status.specs.declared.status.Status.TheVariants.{AllOne, SomeZero, Usage, SomeGivenUp, Refused, Limited, ReadFault, WriteFault, NoMemory}
@@ -27,8 +28,8 @@ HasStatus n WriteFault = ⊥
 HasStatus n NoMemory = ⊥
 
 -- a text that was read is answered with this status, and so much was written
-pub record Answered (opts : Options) (text : List ℕ) (status : Status) (old new : Sinks) : Type 0 where
-  pub writing : Writing (Answers opts text) (MayTell opts text) status old new
+pub record Answered (asked : Run) (text : List ℕ) (status : Status) (old new : Sinks) : Type 0 where
+  pub writing : Writing (Answers asked text) (MayTell asked text) status old new
   pub was_read : status ≡ ReadFault → ⊥
   pub cause : status ≡ WriteFault → SinkFailed old new
   pub out_later : old.out_faults ≤ new.out_faults

@@ -10,27 +10,31 @@ ghost use Rattle.svr_answer.specs.Parts.{Answered};
 use crate::count::status_of;
 use std::alloc::{AllocError, Global};
 use svr_edge::Sink;
-use svr_phase::Options;
 use svr_refused::{Reading, read};
-use svr_run::{End, Stop, run_script};
+use svr_run::{End, Extra, Stop, run_script_extra};
 use svr_status::{Status, finish};
 use svr_typed::Design;
+use svr_words::Run;
 
 /// The run of a design.
 fn run_of<K: Sink, J: Sink>(
     alloc: Global,
-    opts: Options,
+    asked: Run,
     design: &Design,
     out: &mut K,
     journal: &mut J,
 ) -> Status
     requires lawful { IsLawful (design_term design.now) }
-    requires ranges { AreInRange opts }
-    ensures { (text : List ℕ) → length text ≤ TEXT_LIMIT → HasDesign text (design_term design.now) → Answered opts text result
+    requires ranges { AreInRange asked.opts }
+    ensures { (text : List ℕ) → length text ≤ TEXT_LIMIT → HasDesign text (design_term design.now) → Answered asked text result
         (record { out = K.written out.old; journal = J.written journal.old; out_faults = K.faults out.old; journal_faults = J.faults journal.old })
         (record { out = K.written out.new; journal = J.written journal.new; out_faults = K.faults out.new; journal_faults = J.faults journal.new }) }
 {
-    match run_script(alloc, design, opts, out, journal) {
+    let extra = Extra {
+        conflicts: asked.conflicts,
+        lrat: asked.lrat,
+    };
+    match run_script_extra(alloc, design, asked.opts, extra, out, journal) {
         End::Ended(counts) => status_of(counts),
         End::Limit => Status::Limited,
         End::Stopped(Stop::NoMemory) => Status::NoMemory,
@@ -41,20 +45,20 @@ fn run_of<K: Sink, J: Sink>(
 /// The answer to a text of at most 4,194,304 bytes: what the calls of its script tell, or its refusal.
 pub fn answer<K: Sink, J: Sink>(
     alloc: Global,
-    opts: Options,
+    asked: Run,
     text: &[u8],
     out: &mut K,
     journal: &mut J,
 ) -> Status
     requires small { length text.now ≤ TEXT_LIMIT }
-    requires ranges { AreInRange opts }
-    ensures { Answered opts text.now result
+    requires ranges { AreInRange asked.opts }
+    ensures { Answered asked text.now result
         (record { out = K.written out.old; journal = J.written journal.old; out_faults = K.faults out.old; journal_faults = J.faults journal.old })
         (record { out = K.written out.new; journal = J.written journal.new; out_faults = K.faults out.new; journal_faults = J.faults journal.new }) }
 {
     match read(alloc, text) {
         Ok(Reading::Accepted(design)) => {
-            let status = run_of(alloc, opts, &design, out, journal);
+            let status = run_of(alloc, asked, &design, out, journal);
             drop(design);
             status
         }

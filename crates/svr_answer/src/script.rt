@@ -10,21 +10,21 @@ use crate::answer::answer;
 use std::alloc::Global;
 use svr_edge::{ReadEnd, Sink, Source, read_text};
 use svr_limits::TEXT_LIMIT;
-use svr_phase::Options;
 use svr_refusal::Refusal;
 use svr_status::{Status, refuse};
+use svr_words::Run;
 
 /// The run of the script that a source has.
 pub fn run_source<S: Source, K: Sink, J: Sink>(
     alloc: Global,
-    opts: Options,
+    asked: Run,
     src: &mut S,
     out: &mut K,
     journal: &mut J,
 ) -> Status
-    requires { AreInRange opts }
+    requires { AreInRange asked.opts }
     ensures writing { IfSome (S.left src.old) (λ text.
-        Writing (Answers opts text) (MayTell opts text) result
+        Writing (Answers asked text) (MayTell asked text) result
         (record { out = K.written out.old; journal = J.written journal.old; out_faults = K.faults out.old; journal_faults = J.faults journal.old })
         (record { out = K.written out.new; journal = J.written journal.new; out_faults = K.faults out.new; journal_faults = J.faults journal.new })) }
     ensures extent { IfSome (S.left src.old) (λ text. HasReadText TEXT_LIMIT text result (S.left src.old) (S.left src.new)) }
@@ -37,7 +37,7 @@ pub fn run_source<S: Source, K: Sink, J: Sink>(
     ensures journal_faults { J.faults journal.old ≤ J.faults journal.new }
 {
     match read_text(alloc, src, TEXT_LIMIT) {
-        Ok(text) => answer(alloc, opts, &text, out, journal),
+        Ok(text) => answer(alloc, asked, &text, out, journal),
         Err(ReadEnd::TooLong) => refuse(alloc, out, Refusal::TooLong),
         Err(ReadEnd::Failed) => Status::ReadFault,
         Err(ReadEnd::NoMemory) => Status::NoMemory,

@@ -6,9 +6,7 @@ use Rattle.svr_typed.specs.ExprTerm.{ExprTerm, NodeTerm, RangeTerm, BoundTerm, E
 use Rattle.svr_eval.specs.Reading.{Reading}
 use Rattle.svr_eval.specs.Value.{size_of, sign_of, val, alone}
 use Rattle.svr_eval.specs.Typed.{IsTyped, CanRead}
-use Rattle.svr_world.specs.World.{WorldTerm}
-use Rattle.svr_script.specs.Numbered.{numbered, reading_of_world}
-use Rattle.svr_script.specs.Statement.{all_assigned}
+use Rattle.svr_script.specs.Numbered.{numbered}
 use Rattle.svr_effect.specs.Computed.{alone_over, assigned_over, all_assigned_over}
 use Rattle.svr_effect.specs.Stands.{IsComputable, AreComputable, many}
 
@@ -87,18 +85,6 @@ one_assigned r width es i x numbers value lt is got before =
     ∙ ap (λ v. numbers ++ v ∷ all_assigned_over r width (expr_terms (drop (i + 1) es))) got
     ∙ ap (λ (xs : List TExpr). numbers ++ all_assigned_over r width (expr_terms xs)) (sym opened)
     ∙ before
-
--- ---- over the objects of a world
-
-pub computable_over : (w : WorldTerm) (r : Reading) (e : ExprTerm) → r ≡ reading_of_world w → IsComputable (reading_of_world w) e → IsComputable r e
-computable_over w r e is h = subst (λ (x : Reading). IsComputable x e) (sym is) h
-
-pub all_computable_over : (w : WorldTerm) (r : Reading) (es : ExprTerms) → r ≡ reading_of_world w → AreComputable (reading_of_world w) es → AreComputable r es
-all_computable_over w r es is h = subst (λ (x : Reading). AreComputable x es) (sym is) h
-
-pub all_in_world : (w : WorldTerm) (r : Reading) (width : ℕ) (es : ExprTerms) → r ≡ reading_of_world w → all_assigned_over r width es ≡ all_assigned w width es
-all_in_world w r width no_exprs is = refl
-all_in_world w r width (more_exprs e es) is = λ k. assigned_over (is k) width e ∷ all_in_world w r width es is k
 
 -- ---- how long it is
 

@@ -1,9 +1,15 @@
--- All classes with what they inherit, one by one.
-use Rattle.std.proofs.Common.{◌≡◌, ℕ, suc, ◌+◌, refl, ◌∙◌, ap, List, [], ◌∷◌, ◌++◌, map, length, length-append, arith}
-use Rattle.std.specs.Prelude.{slice_index_or}
+-- Each variable finds its class with what it inherits.
+use Rattle.std.proofs.Common.{◌≡◌, ◌≤◌, ℕ, zero, suc, ◌+◌, Bool, true, false, refl, sym, ◌∙◌, ap, subst, List, [], ◌∷◌, ◌++◌, map, length, length-append, arith}
+use Rattle.std.specs.Prelude.{nat_lt, replicate, slice_index, slice_index_or, slice_set, if◌then◌else◌}
 use Rattle.std.specs.List.{range_with_len}
+use Rattle.std.proofs.lemmas.Bool.{ltb-true, ltb-false}
+use Rattle.std.proofs.lemmas.List.FromFn.{length-map-range_with_len, get_or-map-range_with_len}
 use Rattle.svr_typed.specs.ClassTerm.{FlatTerm, ClassTerm}
+use Rattle.svr_typed.specs.StmtTerm.{DesignTerm}
 use Rattle.svr_flat.specs.Flat.{no_class, derived_class, base_of, flat_after, flat_classes, flat_class_of}
+use Rattle.svr_world.specs.World.{declared_classes}
+use Rattle.svr_script.specs.Statement.{class_of_var, flat_of_var}
+use Rattle.svr_effect.specs.Inherited.{wanted_by, wanted_class}
 
 flat_length : (earlier : List FlatTerm) (cs : List ClassTerm) → length (flat_after earlier cs) ≡ length earlier + length cs
 flat_length earlier [] = omega arith
@@ -12,16 +18,55 @@ flat_length earlier (c ∷ cs) =
     let more = length-append earlier (derived_class (base_of earlier c.base) c ∷ []) in
     omega (arith, rest, more)
 
-each_at : {A : Type 0} (f : ℕ → A) (xs : List A) (d : A) (k : ℕ) → ((i : ℕ) → f (k + i) ≡ slice_index_or xs i d) → map f (range_with_len k (length xs)) ≡ xs
-each_at f [] d k h = refl
-each_at f (x ∷ xs) d k h =
-    let first : f k ≡ x = ap f (let e : k ≡ k + 0 = omega arith in e) ∙ h 0 in
-    let rest : map f (range_with_len (k + 1) (length xs)) ≡ xs = each_at f xs d (k + 1) (λ i. ap f (let e : k + 1 + i ≡ k + suc i = omega arith in e) ∙ h (suc i)) in
-    λ i. first i ∷ rest i
+past : {A : Type 0} (xs : List A) (i : ℕ) (d : A) → length xs ≤ i → slice_index_or xs i d ≡ d
+past [] i d le = refl
+past (x ∷ xs) zero d le = absurd (omega (arith, le))
+past (x ∷ xs) (suc i) d le = past xs i d (omega (arith, le))
 
-pub all_classes : (cs : List ClassTerm) (count : ℕ) → count ≡ length cs → map (flat_class_of cs) (range_with_len 0 count) ≡ flat_classes cs
+-- ---- which classes are wanted
+
+abbrev IsWanted : List Bool → ℕ → Type 0
+IsWanted ws k = slice_index_or ws k true ≡ true
+
+set_wanted : (ws : List Bool) (k j : ℕ) → IsWanted ws j → IsWanted (slice_set ws k true) j
+set_wanted [] k j h = h
+set_wanted (w ∷ ws) zero zero h = refl
+set_wanted (w ∷ ws) zero (suc j) h = h
+set_wanted (w ∷ ws) (suc k) zero h = h
+set_wanted (w ∷ ws) (suc k) (suc j) h = set_wanted ws k j h
+
+now_wanted : (ws : List Bool) (k : ℕ) → IsWanted (slice_set ws k true) k
+now_wanted [] k = refl
+now_wanted (w ∷ ws) zero = refl
+now_wanted (w ∷ ws) (suc k) = now_wanted ws k
+
+stays_wanted : (cs : List ℕ) (ws : List Bool) (j : ℕ) → IsWanted ws j → IsWanted (wanted_by ws cs) j
+stays_wanted [] ws j h = h
+stays_wanted (c ∷ cs) ws j h = stays_wanted cs (slice_set ws c true) j (set_wanted ws c j h)
+
+each_wanted : (cs : List ℕ) (ws : List Bool) (o : ℕ) → IsWanted ws 0 → IsWanted (wanted_by ws cs) (slice_index cs o)
+each_wanted [] ws o h = stays_wanted [] ws 0 h
+each_wanted (c ∷ cs) ws zero h = stays_wanted cs (slice_set ws c true) c (now_wanted ws c)
+each_wanted (c ∷ cs) ws (suc o) h = each_wanted cs (slice_set ws c true) o (set_wanted ws c 0 h)
+
+-- ---- what is found of a class that is wanted
+
+one_found : (ws : List Bool) (cs : List ClassTerm) (k : ℕ) → IsWanted ws k → wanted_class ws cs k ≡ flat_class_of cs k
+one_found ws cs k h = ap (λ b. if b then flat_class_of cs k else no_class) h
+
+found_class : (ws : List Bool) (cs : List ClassTerm) (k : ℕ) → IsWanted ws k → slice_index_or (map (wanted_class ws cs) (range_with_len 0 (length cs))) k no_class ≡ flat_class_of cs k
 unfolding flat_class_of
-all_classes cs count is =
-    let long : count ≡ length (flat_classes cs) = let n = flat_length [] cs in omega (arith, n, is) in
-    ap (λ n. map (flat_class_of cs) (range_with_len 0 n)) long
-    ∙ each_at (flat_class_of cs) (flat_classes cs) no_class 0 (λ i. let e : 0 + i ≡ i = omega arith in ap (λ n. slice_index_or (flat_classes cs) n no_class) e)
+found_class ws cs k h = by_place (nat_lt k (length cs)) refl
+  where
+    by_place : (b : Bool) → nat_lt k (length cs) ≡ b → slice_index_or (map (wanted_class ws cs) (range_with_len 0 (length cs))) k no_class ≡ flat_class_of cs k
+    by_place true e = get_or-map-range_with_len (wanted_class ws cs) 0 (length cs) k k no_class (ltb-true k (length cs) e) (omega arith) ∙ one_found ws cs k h
+    by_place false e =
+        let ge = ltb-false k (length cs) e in
+        past (map (wanted_class ws cs) (range_with_len 0 (length cs))) k no_class (let long = length-map-range_with_len (wanted_class ws cs) 0 (length cs) in omega (arith, ge, long))
+        ∙ sym (past (flat_classes cs) k no_class (let long = flat_length [] cs in omega (arith, ge, long)))
+
+pub each_class : (d : DesignTerm) (n : ℕ) (ws : List Bool) (flats : List FlatTerm) (none : FlatTerm) → ws ≡ wanted_by (slice_set (replicate n false) 0 true) (declared_classes d.vars)
+    → flats ≡ map (wanted_class ws d.classes) (range_with_len 0 (length d.classes)) → none ≡ no_class → (o : ℕ) → slice_index_or flats (class_of_var d o) none ≡ flat_of_var d o
+each_class d n ws flats none wanted made empty o =
+    let here : IsWanted ws (class_of_var d o) = subst (λ (x : List Bool). IsWanted x (class_of_var d o)) (sym wanted) (each_wanted (declared_classes d.vars) (slice_set (replicate n false) 0 true) o (now_wanted (replicate n false) 0)) in
+    (λ i. slice_index_or (made i) (class_of_var d o) (empty i)) ∙ found_class ws d.classes (class_of_var d o) here

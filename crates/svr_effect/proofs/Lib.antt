@@ -3,3 +3,4 @@ pub mod Copies
 pub mod Together
 pub mod Written
 pub mod Flats
+pub mod Blind

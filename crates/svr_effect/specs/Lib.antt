@@ -1,4 +1,5 @@
 pub mod Inherited
 pub mod Objects
+pub mod Sight
 pub mod Computed
 pub mod Stands

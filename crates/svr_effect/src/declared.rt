@@ -1,13 +1,12 @@
 // What is declared of script variables and of the properties of their classes.
 
 ghost use Rattle.std.specs.Prelude.{◌≡◌};
-ghost use Rattle.svr_typed.specs.ClassTerm.{flat_term};
 ghost use Rattle.svr_typed.specs.StmtTerm.{design_term};
 ghost use Rattle.svr_effect.specs.Inherited.{AreClasses};
 ghost use Rattle.svr_script.specs.Statement as spec;
 
 use crate::classes::Classes;
-use svr_typed::{Design, FlatClass, VarKind};
+use svr_typed::{Design, VarKind};
 
 /// The class of an object variable, 0 for any other.
 pub fn class_of_var(design: &Design, object: u32) -> u32
@@ -35,20 +34,12 @@ pub(crate) fn width_of_var(design: &Design, var: u32) -> u8
     }
 }
 
-/// The class of an object variable with what it inherits.
-pub(crate) fn flat_of_var<'a>(design: &Design, classes: &'a Classes, object: u32) -> &'a FlatClass
-    requires { AreClasses (design_term design.now) classes.now }
-    ensures { flat_term result.now ≡ spec.flat_of_var (design_term design.now) object }
-{
-    classes.get(design, class_of_var(design, object))
-}
-
 /// The width of a property of an object variable, or of its elements; 0 where there is none.
 pub(crate) fn width_of_prop(design: &Design, classes: &Classes, object: u32, prop: u32) -> u8
     requires { AreClasses (design_term design.now) classes.now }
     ensures { result ≡ spec.width_of_prop (design_term design.now) object prop }
 {
-    let flat = flat_of_var(design, classes, object);
+    let flat = classes.of_var(design, object);
     match flat.props.as_slice().get(prop as usize) {
         Some(declared) => declared.kind.width,
         None => 0,

@@ -13,8 +13,9 @@ ghost use Rattle.svr_effect.specs.Objects.{IsWhole, placed_at};
 ghost use Rattle.svr_effect.specs.Stands.{AllCanBe, CanBeComputed, IsWide, Stands, many};
 
 use crate::classes::Classes;
-use crate::declared::{flat_of_var, width_of_prop, width_of_var};
-use crate::objects::all_objects;
+use crate::declared::{width_of_prop, width_of_var};
+use crate::objects::seen;
+use crate::sight::{either_reads, reads_property, some_reads};
 use crate::values::{all_assigned, assigned, is_on, place_read};
 use sqlite_items::Items;
 use std::alloc::Global;
@@ -87,7 +88,7 @@ fn set_scalar(
     ensures effect { OnOk result (world.new ≡ written world.old object prop None (assigned world.old width (expr_term value.now))) }
     ensures failed { OnErr result (world.new ≡ world.old) }
 {
-    let objects = all_objects(alloc, world)?;
+    let objects = seen(alloc, world, reads_property(value))?;
     let number = assigned(alloc, &objects, width, value)?;
     world.set(object, prop, 0, number);
     Ok(())
@@ -111,7 +112,7 @@ fn set_element(
     ensures effect { OnOk result (world.new ≡ written world.old object prop (Some (expr_term index.now)) (assigned world.old width (expr_term value.now))) }
     ensures failed { OnErr result (world.new ≡ world.old) }
 {
-    let objects = all_objects(alloc, world)?;
+    let objects = seen(alloc, world, either_reads(index, value))?;
     let number = assigned(alloc, &objects, width, value)?;
     let place = place_read(alloc, &objects, index)?;
     write(world, object, prop, place, number);
@@ -135,7 +136,7 @@ fn set_pattern(
     ensures effect { OnOk result (world.new ≡ with_numbers world.old object prop (all_assigned world.old width (expr_terms values.now))) }
     ensures failed { OnErr result (world.new ≡ world.old) }
 {
-    let objects = all_objects(alloc, world)?;
+    let objects = seen(alloc, world, some_reads(values))?;
     let numbers = all_assigned(alloc, &objects, width, values)?;
     replace(alloc, world, object, prop, numbers)
 }
@@ -171,7 +172,7 @@ fn set_var(
     ensures effect { OnOk result (world.new ≡ with_script world.old var (assigned world.old width (expr_term value.now))) }
     ensures failed { OnErr result (world.new ≡ world.old) }
 {
-    let objects = all_objects(alloc, world)?;
+    let objects = seen(alloc, world, reads_property(value))?;
     let number = assigned(alloc, &objects, width, value)?;
     world.script_set(var, number);
     Ok(())
@@ -191,7 +192,7 @@ fn set_rand_mode(
     ensures effect { OnOk result (world.new ≡ with_rand_mode world.old object prop (is_on world.old (expr_term on.now))) }
     ensures failed { OnErr result (world.new ≡ world.old) }
 {
-    let objects = all_objects(alloc, world)?;
+    let objects = seen(alloc, world, reads_property(on))?;
     let on = is_on(alloc, &objects, on)?;
     world.rand_mode(object, prop, on);
     Ok(())
@@ -211,7 +212,7 @@ fn set_block_mode(
     ensures effect { OnOk result (world.new ≡ with_block_mode world.old object block (is_on world.old (expr_term on.now))) }
     ensures failed { OnErr result (world.new ≡ world.old) }
 {
-    let objects = all_objects(alloc, world)?;
+    let objects = seen(alloc, world, reads_property(on))?;
     let on = is_on(alloc, &objects, on)?;
     world.constraint_mode(object, block, on);
     Ok(())
@@ -232,7 +233,7 @@ pub fn execute(
     ensures failed { OnErr result (world.new ≡ world.old) }
 {
     match stmt {
-        TStmt::Make(object) => { world.make(alloc, *object, flat_of_var(design, classes, *object)) }
+        TStmt::Make(object) => { world.make(alloc, *object, classes.of_var(design, *object)) }
         TStmt::SetVar(var, value) => {
             set_var(alloc, world, *var, width_of_var(design, *var), value)
         }

@@ -9,6 +9,7 @@ mod effects;
 mod memory;
 mod numbered;
 mod objects;
+mod sight;
 mod values;
 
 pub use classes::Classes;

@@ -5,6 +5,7 @@ ghost use Rattle.std.specs.List.{range_with_len};
 ghost use Rattle.svr_eval.specs.Reading.{reading_of};
 ghost use Rattle.svr_script.specs.Numbered.{reading_of_world};
 ghost use Rattle.svr_effect.specs.Objects.{numbers_in, size_in, IsWhole};
+ghost use Rattle.svr_effect.specs.Sight.{script_alone, seen};
 
 use sqlite_items::Items;
 use std::alloc::Global;
@@ -58,7 +59,7 @@ fn place_count(variables: usize) -> Result<u32, NoMemory>
 }
 
 /// All objects and script variables of a world.
-pub(crate) fn all_objects(alloc: Global, world: &World) -> Result<Assign, NoMemory>
+fn all_objects(alloc: Global, world: &World) -> Result<Assign, NoMemory>
     requires { IsWhole world.now }
     ensures { IfOk result (λ a. reading_of a ≡ reading_of_world world.now) }
 {
@@ -72,4 +73,28 @@ pub(crate) fn all_objects(alloc: Global, world: &World) -> Result<Assign, NoMemo
         sizes,
         script,
     })
+}
+
+/// The script variables of a world, and no object.
+fn script_alone(alloc: Global, world: &World) -> Result<Assign, NoMemory>
+    ensures { IfOk result (λ a. reading_of a ≡ script_alone world.now) }
+{
+    let script = Items::from_slice(alloc, world.script())?;
+    Ok(Assign {
+        values: Items::new(alloc),
+        sizes: Items::new(alloc),
+        script,
+    })
+}
+
+/// What expressions are computed over of which some read a property, or none: then no object is looked at.
+pub(crate) fn seen(alloc: Global, world: &World, reads: bool) -> Result<Assign, NoMemory>
+    requires { IsWhole world.now }
+    ensures { IfOk result (λ a. reading_of a ≡ seen world.now reads) }
+{
+    if reads {
+        all_objects(alloc, world)
+    } else {
+        script_alone(alloc, world)
+    }
 }

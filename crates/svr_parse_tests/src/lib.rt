@@ -1,4 +1,4 @@
-//! The tests of trees and of the readers of expressions, items, declarations, statements and scripts: short texts, with the shapes of their trees, their heights and their faults.
+//! The tests of trees and of the readers of expressions, items, declarations and statements: short texts, with the shapes of their trees, their heights and their faults.
 //!
 //! They stand apart, so that the readers are proved once.
 #![tactic(auto)]
@@ -9,8 +9,6 @@ mod declarations;
 mod expressions;
 #[cfg(test)]
 mod items;
-#[cfg(test)]
-mod scripts;
 #[cfg(test)]
 mod statements;
 #[cfg(test)]

@@ -34,3 +34,10 @@ no_free_size (p ∷ ps) sizes = refl
 pub no_bits : (f : FrameTerm) (slots : List Slot) → bits_text f slots [] ≡ []
 no_bits f [] = refl
 no_bits f (s ∷ slots) = refl
+
+-- a text that is put where a truth says so
+pub with_text : (b : Bool) (text : List ℕ) → b ≡ true → text ≡ cond b text []
+with_text b text e = ap (λ (x : Bool). cond x text []) (sym e)
+
+pub without_text : (b : Bool) (text : List ℕ) → b ≡ false → [] ≡ cond b text []
+without_text b text e = ap (λ (x : Bool). cond x text []) (sym e)

@@ -1,8 +1,9 @@
 // The line of a call.
 
-ghost use Rattle.std.specs.Prelude.{◌≡◌, ◌++◌, ◌∷◌, [], ℕ, codes, decimal, flat_map};
+ghost use Rattle.std.specs.Prelude.{◌≡◌, ◌++◌, ◌∷◌, [], ℕ, List, Option, codes, decimal, flat_map};
 ghost use Rattle.std.specs.List.{concat};
 ghost use Rattle.svr_frame.specs.Frame.{frame_term};
+ghost use Rattle.svr_conflict.specs.declared.found.ConflictEnd.{ConflictEnd};
 ghost use Rattle.svr_stream.specs.Puts.{Puts, place};
 ghost use Rattle.svr_script.specs.Printed as spec;
 
@@ -245,8 +246,8 @@ pub fn put_line<K: Sink>(
     outcome: &Outcome,
     after: &[Items<u64>],
 )
-    ensures { (class : ℕ) → Puts (place (K.written out.old) (K.faults out.old) text.old) (place (K.written out.new) (K.faults out.new) text.new)
-        (spec.line_of (record { number = number; object = object.now; class = class; frame = frame_term frame.now; outcome = outcome.now; after = after.now })) }
+    ensures { (class : ℕ) (names : List (List ℕ)) (conflict : Option ConflictEnd) → Puts (place (K.written out.old) (K.faults out.old) text.old) (place (K.written out.new) (K.faults out.new) text.new)
+        (spec.line_of (record { number = number; object = object.now; class = class; frame = frame_term frame.now; outcome = outcome.now; after = after.now; names = names; conflict = conflict })) }
 {
     text.put(out, b"#");
     text.put_number(out, number);

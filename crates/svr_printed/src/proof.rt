@@ -144,8 +144,8 @@ fn put_bits<K: Sink>(
     }
 }
 
-/// The unknowns of an encoding and their bits.
-fn put_unknowns<K: Sink>(text: &mut Pending, out: &mut K, frame: &Frame, encoding: &Encoded)
+/// Puts the unknowns of an encoding and their bits.
+pub fn put_unknowns<K: Sink>(text: &mut Pending, out: &mut K, frame: &Frame, encoding: &Encoded)
     ensures { Puts (place (K.written out.old) (K.faults out.old) text.old) (place (K.written out.new) (K.faults out.new) text.new)
         (spec.unknowns_text (frame_term frame.now) encoding.now) }
 {
@@ -309,7 +309,8 @@ fn put_rank<K: Sink>(text: &mut Pending, out: &mut K, rank: u32)
     text.put_number(out, rank);
 }
 
-fn put_reason<K: Sink>(text: &mut Pending, out: &mut K, frame: &Frame, reason: ProofReason)
+/// Puts what a proof refutes.
+pub fn put_reason<K: Sink>(text: &mut Pending, out: &mut K, frame: &Frame, reason: ProofReason)
     ensures { Puts (place (K.written out.old) (K.faults out.old) text.old) (place (K.written out.new) (K.faults out.new) text.new)
         (spec.reason_text (frame_term frame.now) reason) }
 {
@@ -390,7 +391,46 @@ pub(crate) fn put_proofs<K: Sink>(
     }
 }
 
-/// The log of a question that was given up.
+/// A log of a question that was given up, behind the words that say what was asked.
+fn put_log_behind<K: Sink>(
+    text: &mut Pending,
+    out: &mut K,
+    frame: &Frame,
+    encoding: &Encoded,
+    log: &Refutation,
+    first: u64,
+)
+    ensures { Puts (place (K.written out.old) (K.faults out.old) text.old) (place (K.written out.new) (K.faults out.new) text.new)
+        (concat (codes "\n" ∷ spec.unknowns_text (frame_term frame.now) encoding.now ∷ spec.clauses_text encoding.now.cnf.clauses.items ∷ spec.steps_text log.now.steps ∷ codes "f " ∷ decimal first ∷ codes "\ne\n" ∷ [])) }
+{
+    text.put(out, b"\n");
+    put_unknowns(text, out, frame, encoding);
+    put_cnf(text, out, encoding);
+    put_steps_of(text, out, log);
+    text.put(out, b"f ");
+    text.put_number(out, first);
+    text.put(out, b"\ne\n");
+}
+
+/// The log of a question in these words that was given up.
+pub(crate) fn put_log_over<K: Sink>(
+    text: &mut Pending,
+    out: &mut K,
+    question: &[u8],
+    frame: &Frame,
+    encoding: &Encoded,
+    log: &Refutation,
+    first: u64,
+)
+    ensures { Puts (place (K.written out.old) (K.faults out.old) text.old) (place (K.written out.new) (K.faults out.new) text.new)
+        (spec.log_over question.now (frame_term frame.now) encoding.now log.now first) }
+{
+    text.put(out, b"p gaveup ");
+    text.put(out, question);
+    put_log_behind(text, out, frame, encoding, log, first);
+}
+
+/// The log of a question of a call that was given up.
 pub(crate) fn put_log<K: Sink>(
     text: &mut Pending,
     out: &mut K,
@@ -405,11 +445,5 @@ pub(crate) fn put_log<K: Sink>(
 {
     text.put(out, b"p gaveup ");
     put_query(text, out, frame, query);
-    text.put(out, b"\n");
-    put_unknowns(text, out, frame, encoding);
-    put_cnf(text, out, encoding);
-    put_steps_of(text, out, log);
-    text.put(out, b"f ");
-    text.put_number(out, first);
-    text.put(out, b"\ne\n");
+    put_log_behind(text, out, frame, encoding, log, first);
 }

@@ -1,16 +1,16 @@
 -- Which answers a script and a derivation have.
 use Rattle.std.proofs.Common.{◌≡◌, ◌≤◌, ◌<◌, ℕ, List, length, refl, sym, ◌∙◌, subst, inl, inr, arith}
 use Rattle.svr_limits.specs.declared.limit.TheConstants.{TEXT_LIMIT}
-use Rattle.svr_phase.specs.declared.options.Options.{Options}
 use Rattle.svr_script.specs.Ending as ending
 use Rattle.svr_script.specs.Ending.{Output}
-use Rattle.svr_run.specs.Telling.{Sinks, printing_of}
+use Rattle.svr_run.specs.Telling.{Sinks}
 use Rattle.svr_run_budget_laws.specs.Runs.{CallsAskLittle}
 use Rattle.svr_run_budget_laws.proofs.Along.{ends_answered}
 use Rattle.svr_check.proofs.Excluded.{files_are_judged}
+use Rattle.svr_words.specs.declared.request.Run.{Run}
 use Rattle.svr_words.specs.Words.{IsCommand}
 use Rattle.svr_words.proofs.Taking.{run_is_no_load, run_is_no_check, load_is_no_check, run_is_no_seq, load_is_no_seq, check_is_no_seq}
-use Rattle.svr_answer.specs.Ends.{Ends}
+use Rattle.svr_answer.specs.Ends.{Ends, printing}
 use Rattle.svr_answer.specs.Answers.{Refuses, too_long, refused}
 use Rattle.svr_command_check.specs.Answers.{RefusesCheck, too_long_to_check, no_file}
 use Rattle.svr_command_seq.specs.Answers.{RefusesSeq, too_long_to_produce, no_sequence}
@@ -21,37 +21,37 @@ use Rattle.svr_status.proofs.Statuses.{refused_no_usage, limited_no_usage, given
 use Rattle.svr_program.specs.Outcome.{Says, Writes}
 use Rattle.svr_program.specs.Complete.{IsAnswerable, IsAnswered, RunsAreComplete, IsSmall, IsAnsweredWhole, SmallRunsAreAnswered, IsCheckable, IsVerdict, ChecksAreComplete, IsProducible, IsProduced, LinesAreComplete}
 
-same_options : (words : List (List ℕ)) (a b : Options) → IsCommand words a → IsCommand words b → a ≡ b
-same_options words a b h k = h.options ∙ sym k.options
+same_run : (words : List (List ℕ)) (a b : Run) → IsCommand words a → IsCommand words b → a ≡ b
+same_run words a b h k = h.options ∙ sym k.options
 
 module _ (words : List (List ℕ)) (text : List ℕ) (able : IsAnswerable words text) where
   never_refused : (output : Output) → Refuses text output → ⊥
   never_refused output (too_long long is) = let small = able.small in absurd (omega arith)
   never_refused output (refused line small why is) = able.accepted line why
 
-  never_limited : (opts : Options) (output : Output) → IsCommand words opts → Ends opts text ending.Limited output → ⊥
-  never_limited opts output asked ends = able.unlimited output (subst (λ (o : Options). Ends o text ending.Limited output) (same_options words opts able.opts asked able.asked) ends)
+  never_limited : (run : Run) (output : Output) → IsCommand words run → Ends run text ending.Limited output → ⊥
+  never_limited run output asked ends = able.unlimited output (subst (λ (r : Run). Ends r text ending.Limited output) (same_run words run able.run asked able.asked) ends)
 
   is_answered : (status : Status) (old new : Sinks) → Writes words text status old new → (status ≡ ReadFault → ⊥) → (status ≡ WriteFault → ⊥) → IsAnswered status
   is_answered AllOne old new writes read write = inl refl
   is_answered SomeZero old new writes read write = inr (inl refl)
   is_answered SomeGivenUp old new writes read write = inr (inr (inl refl))
   is_answered NoMemory old new writes read write = inr (inr (inr refl))
-  is_answered Usage old new (output, inl (e, none, is), out, journal) read write = absurd (none.no_run able.opts able.asked)
-  is_answered Usage old new (output, inr (inl (opts, asked, none)), out, journal) read write = absurd none
+  is_answered Usage old new (output, inl (e, none, is), out, journal) read write = absurd (none.no_run able.run able.asked)
+  is_answered Usage old new (output, inr (inl (run, asked, none)), out, journal) read write = absurd none
   is_answered Usage old new (output, inr (inr (inl (count, opts, asked, none))), out, journal) read write = absurd none
   is_answered Usage old new (output, inr (inr (inr (inl (asked, none)))), out, journal) read write = absurd none
   is_answered Usage old new (output, inr (inr (inr (inr (seed, many, asked, none)))), out, journal) read write = absurd none
   is_answered Refused old new (output, inl (e, none, is), out, journal) read write = absurd (refused_no_usage e)
-  is_answered Refused old new (output, inr (inl (opts, asked, refuses)), out, journal) read write = absurd (never_refused output refuses)
-  is_answered Refused old new (output, inr (inr (inl (count, opts, asked, refuses))), out, journal) read write = absurd (run_is_no_load words able.opts count opts able.asked asked)
-  is_answered Refused old new (output, inr (inr (inr (inl (asked, refuses)))), out, journal) read write = absurd (run_is_no_check words able.opts able.asked asked)
-  is_answered Refused old new (output, inr (inr (inr (inr (seed, many, asked, refuses)))), out, journal) read write = absurd (run_is_no_seq words able.opts seed many able.asked asked)
+  is_answered Refused old new (output, inr (inl (run, asked, refuses)), out, journal) read write = absurd (never_refused output refuses)
+  is_answered Refused old new (output, inr (inr (inl (count, opts, asked, refuses))), out, journal) read write = absurd (run_is_no_load words able.run count opts able.asked asked)
+  is_answered Refused old new (output, inr (inr (inr (inl (asked, refuses)))), out, journal) read write = absurd (run_is_no_check words able.run able.asked asked)
+  is_answered Refused old new (output, inr (inr (inr (inr (seed, many, asked, refuses)))), out, journal) read write = absurd (run_is_no_seq words able.run seed many able.asked asked)
   is_answered Limited old new (output, inl (e, none, is), out, journal) read write = absurd (limited_no_usage e)
-  is_answered Limited old new (output, inr (inl (opts, asked, answers)), out, journal) read write = absurd (never_limited opts output asked answers.1)
-  is_answered Limited old new (output, inr (inr (inl (count, opts, asked, answers))), out, journal) read write = absurd (run_is_no_load words able.opts count opts able.asked asked)
+  is_answered Limited old new (output, inr (inl (run, asked, answers)), out, journal) read write = absurd (never_limited run output asked answers.1)
+  is_answered Limited old new (output, inr (inr (inl (count, opts, asked, answers))), out, journal) read write = absurd (run_is_no_load words able.run count opts able.asked asked)
   is_answered Limited old new (output, inr (inr (inr (inl (asked, none)))), out, journal) read write = absurd none
-  is_answered Limited old new (output, inr (inr (inr (inr (seed, many, asked, none)))), out, journal) read write = absurd (run_is_no_seq words able.opts seed many able.asked asked)
+  is_answered Limited old new (output, inr (inr (inr (inr (seed, many, asked, none)))), out, journal) read write = absurd (run_is_no_seq words able.run seed many able.asked asked)
   is_answered ReadFault old new writes read write = absurd (read refl)
   is_answered WriteFault old new writes read write = absurd (write refl)
 
@@ -64,15 +64,15 @@ module _ (words : List (List ℕ)) (text : List ℕ) (small : IsSmall words text
   abbrev able : IsAnswerable words text
   able = small.answerable
 
-  never_given_up : (opts : Options) (output : Output) → IsCommand words opts → Ends opts text ending.SomeGivenUp output → ⊥
-  never_given_up opts output asked ends =
-      let same : opts ≡ able.opts = same_options words opts able.opts asked able.asked in
-      ends_answered ends.design opts (subst (λ (o : Options). CallsAskLittle ends.design o) (sym same) (small.little ends.design ends.read)) (printing_of opts) output ends.run
+  never_given_up : (run : Run) (output : Output) → IsCommand words run → Ends run text ending.SomeGivenUp output → ⊥
+  never_given_up run output asked ends =
+      let same : run ≡ able.run = same_run words run able.run asked able.asked in
+      ends_answered ends.design run.opts (subst (λ (r : Run). CallsAskLittle ends.design r.opts) (sym same) (small.little ends.design ends.read)) (printing run) output ends.run
 
   none_said : (output : Output) → Says words text SomeGivenUp output → ⊥
   none_said output (inl (e, none, is)) = given_no_usage e
-  none_said output (inr (inl (opts, asked, answers))) = never_given_up opts output asked answers.1
-  none_said output (inr (inr (inl (count, opts, asked, answers)))) = run_is_no_load words able.opts count opts able.asked asked
+  none_said output (inr (inl (run, asked, answers))) = never_given_up run output asked answers.1
+  none_said output (inr (inr (inl (count, opts, asked, answers)))) = run_is_no_load words able.run count opts able.asked asked
   none_said output (inr (inr (inr (inl (asked, none))))) = none
   none_said output (inr (inr (inr (inr (seed, many, asked, none))))) = none
 
@@ -100,22 +100,22 @@ module _ (words : List (List ℕ)) (text : List ℕ) (able : IsCheckable words t
   is_verdict SomeZero old new writes read write = inr (inl refl)
   is_verdict NoMemory old new writes read write = inr (inr refl)
   is_verdict Usage old new (output, inl (e, none, is), out, journal) read write = absurd (none.no_check able.asked)
-  is_verdict Usage old new (output, inr (inl (opts, asked, none)), out, journal) read write = absurd none
+  is_verdict Usage old new (output, inr (inl (run, asked, none)), out, journal) read write = absurd none
   is_verdict Usage old new (output, inr (inr (inl (count, opts, asked, none))), out, journal) read write = absurd none
   is_verdict Usage old new (output, inr (inr (inr (inl (asked, none)))), out, journal) read write = absurd none
   is_verdict Usage old new (output, inr (inr (inr (inr (seed, many, asked, none)))), out, journal) read write = absurd none
   is_verdict SomeGivenUp old new (output, inl (e, none, is), out, journal) read write = absurd (given_no_usage e)
-  is_verdict SomeGivenUp old new (output, inr (inl (opts, asked, answers)), out, journal) read write = absurd (run_is_no_check words opts asked able.asked)
+  is_verdict SomeGivenUp old new (output, inr (inl (run, asked, answers)), out, journal) read write = absurd (run_is_no_check words run asked able.asked)
   is_verdict SomeGivenUp old new (output, inr (inr (inl (count, opts, asked, answers))), out, journal) read write = absurd (load_is_no_check words count opts asked able.asked)
   is_verdict SomeGivenUp old new (output, inr (inr (inr (inl (asked, none)))), out, journal) read write = absurd none
   is_verdict SomeGivenUp old new (output, inr (inr (inr (inr (seed, many, asked, none)))), out, journal) read write = absurd none
   is_verdict Refused old new (output, inl (e, none, is), out, journal) read write = absurd (refused_no_usage e)
-  is_verdict Refused old new (output, inr (inl (opts, asked, refuses)), out, journal) read write = absurd (run_is_no_check words opts asked able.asked)
+  is_verdict Refused old new (output, inr (inl (run, asked, refuses)), out, journal) read write = absurd (run_is_no_check words run asked able.asked)
   is_verdict Refused old new (output, inr (inr (inl (count, opts, asked, refuses))), out, journal) read write = absurd (load_is_no_check words count opts asked able.asked)
   is_verdict Refused old new (output, inr (inr (inr (inl (asked, refuses)))), out, journal) read write = absurd (not_refused output refuses)
   is_verdict Refused old new (output, inr (inr (inr (inr (seed, many, asked, refuses)))), out, journal) read write = absurd (check_is_no_seq words seed many able.asked asked)
   is_verdict Limited old new (output, inl (e, none, is), out, journal) read write = absurd (limited_no_usage e)
-  is_verdict Limited old new (output, inr (inl (opts, asked, answers)), out, journal) read write = absurd (run_is_no_check words opts asked able.asked)
+  is_verdict Limited old new (output, inr (inl (run, asked, answers)), out, journal) read write = absurd (run_is_no_check words run asked able.asked)
   is_verdict Limited old new (output, inr (inr (inl (count, opts, asked, answers))), out, journal) read write = absurd (load_is_no_check words count opts asked able.asked)
   is_verdict Limited old new (output, inr (inr (inr (inl (asked, none)))), out, journal) read write = absurd none
   is_verdict Limited old new (output, inr (inr (inr (inr (seed, many, asked, none)))), out, journal) read write = absurd (check_is_no_seq words seed many able.asked asked)
@@ -137,22 +137,22 @@ module _ (words : List (List ℕ)) (text : List ℕ) (able : IsProducible words 
   is_produced Limited old new writes read write = inr (inl refl)
   is_produced NoMemory old new writes read write = inr (inr refl)
   is_produced SomeZero old new (output, inl (e, none, is), out, journal) read write = absurd (none.no_seq able.seed able.count able.asked)
-  is_produced SomeZero old new (output, inr (inl (opts, asked, answers)), out, journal) read write = absurd (run_is_no_seq words opts able.seed able.count asked able.asked)
+  is_produced SomeZero old new (output, inr (inl (run, asked, answers)), out, journal) read write = absurd (run_is_no_seq words run able.seed able.count asked able.asked)
   is_produced SomeZero old new (output, inr (inr (inl (count, opts, asked, answers))), out, journal) read write = absurd (load_is_no_seq words count opts able.seed able.count asked able.asked)
   is_produced SomeZero old new (output, inr (inr (inr (inl (asked, answers)))), out, journal) read write = absurd (check_is_no_seq words able.seed able.count asked able.asked)
   is_produced SomeZero old new (output, inr (inr (inr (inr (seed, many, asked, none)))), out, journal) read write = absurd none
   is_produced Usage old new (output, inl (e, none, is), out, journal) read write = absurd (none.no_seq able.seed able.count able.asked)
-  is_produced Usage old new (output, inr (inl (opts, asked, none)), out, journal) read write = absurd none
+  is_produced Usage old new (output, inr (inl (run, asked, none)), out, journal) read write = absurd none
   is_produced Usage old new (output, inr (inr (inl (count, opts, asked, none))), out, journal) read write = absurd none
   is_produced Usage old new (output, inr (inr (inr (inl (asked, none)))), out, journal) read write = absurd none
   is_produced Usage old new (output, inr (inr (inr (inr (seed, many, asked, none)))), out, journal) read write = absurd none
   is_produced SomeGivenUp old new (output, inl (e, none, is), out, journal) read write = absurd (given_no_usage e)
-  is_produced SomeGivenUp old new (output, inr (inl (opts, asked, answers)), out, journal) read write = absurd (run_is_no_seq words opts able.seed able.count asked able.asked)
+  is_produced SomeGivenUp old new (output, inr (inl (run, asked, answers)), out, journal) read write = absurd (run_is_no_seq words run able.seed able.count asked able.asked)
   is_produced SomeGivenUp old new (output, inr (inr (inl (count, opts, asked, answers))), out, journal) read write = absurd (load_is_no_seq words count opts able.seed able.count asked able.asked)
   is_produced SomeGivenUp old new (output, inr (inr (inr (inl (asked, none)))), out, journal) read write = absurd none
   is_produced SomeGivenUp old new (output, inr (inr (inr (inr (seed, many, asked, none)))), out, journal) read write = absurd none
   is_produced Refused old new (output, inl (e, none, is), out, journal) read write = absurd (refused_no_usage e)
-  is_produced Refused old new (output, inr (inl (opts, asked, refuses)), out, journal) read write = absurd (run_is_no_seq words opts able.seed able.count asked able.asked)
+  is_produced Refused old new (output, inr (inl (run, asked, refuses)), out, journal) read write = absurd (run_is_no_seq words run able.seed able.count asked able.asked)
   is_produced Refused old new (output, inr (inr (inl (count, opts, asked, refuses))), out, journal) read write = absurd (load_is_no_seq words count opts able.seed able.count asked able.asked)
   is_produced Refused old new (output, inr (inr (inr (inl (asked, refuses)))), out, journal) read write = absurd (check_is_no_seq words able.seed able.count asked able.asked)
   is_produced Refused old new (output, inr (inr (inr (inr (seed, many, asked, refuses)))), out, journal) read write = absurd (seq_not_refused output refuses)

@@ -5,6 +5,7 @@ use Rattle.std.proofs.KnownBytes.{Appends-nil}
 use Rattle.svr_edge.specs.Known.{AppendsFront}
 use Rattle.svr_phase.specs.declared.options.Options.{Options}
 use Rattle.svr_run.specs.Telling.{Sinks}
+use Rattle.svr_words.specs.declared.request.Run.{Run}
 use Rattle.svr_words.specs.Words.{IsCommand, IsLoad, IsCheck, IsSeq, AskNothing, usage_text}
 use Rattle.svr_status.specs.Writing.{prints, Writing}
 use Rattle.svr_status.specs.declared.status.Status.{Status}
@@ -18,10 +19,10 @@ use Rattle.svr_command_seq.specs.Answers.{SeqAnswers, SeqMayTell}
 use Rattle.svr_program.specs.Outcome.{Says, MaySay, Writes}
 
 -- an answer is what the program says with words that are a command
-pub answer_is_said : (words : List (List ℕ)) (opts : Options) (text : List ℕ) (status : Status) (old new : Sinks) → IsCommand words opts
-    → Writing (Answers opts text) (MayTell opts text) status old new → Writes words text status old new
-answer_is_said words opts text status old new asked writing =
-    mapped (Answers opts text) (Says words text) (MayTell opts text) (MaySay words text) (λ s o h. inr (inl (opts, asked, h))) (λ o h. inr (inl (opts, asked, h))) status old new writing
+pub answer_is_said : (words : List (List ℕ)) (run : Run) (text : List ℕ) (status : Status) (old new : Sinks) → IsCommand words run
+    → Writing (Answers run text) (MayTell run text) status old new → Writes words text status old new
+answer_is_said words run text status old new asked writing =
+    mapped (Answers run text) (Says words text) (MayTell run text) (MaySay words text) (λ s o h. inr (inl (run, asked, h))) (λ o h. inr (inl (run, asked, h))) status old new writing
 
 pub load_is_said : (words : List (List ℕ)) (count : ℕ) (opts : Options) (text : List ℕ) (status : Status) (old new : Sinks) → IsLoad words count opts
     → Writing (LoadAnswers count opts) (LoadMayTell count opts) status old new → Writes words text status old new
@@ -39,10 +40,10 @@ seq_is_said words seed count text status old new asked writing =
     mapped (SeqAnswers seed count text) (Says words text) (SeqMayTell seed count text) (MaySay words text) (λ s o h. inr (inr (inr (inr (seed, count, asked, h))))) (λ o h. inr (inr (inr (inr (seed, count, asked, h))))) status old new writing
 
 -- over a source that tells its text
-pub source_is_said : (o : Option (List ℕ)) (words : List (List ℕ)) (opts : Options) (status : Status) (old new : Sinks) → IsCommand words opts
-    → IfSome o (λ text. Writing (Answers opts text) (MayTell opts text) status old new) → IfSome o (λ text. Writes words text status old new)
-source_is_said None words opts status old new asked writing = tt
-source_is_said (Some text) words opts status old new asked writing = answer_is_said words opts text status old new asked writing
+pub source_is_said : (o : Option (List ℕ)) (words : List (List ℕ)) (run : Run) (status : Status) (old new : Sinks) → IsCommand words run
+    → IfSome o (λ text. Writing (Answers run text) (MayTell run text) status old new) → IfSome o (λ text. Writes words text status old new)
+source_is_said None words run status old new asked writing = tt
+source_is_said (Some text) words run status old new asked writing = answer_is_said words run text status old new asked writing
 
 pub made_is_said : (o : Option (List ℕ)) (words : List (List ℕ)) (count : ℕ) (opts : Options) (status : Status) (old new : Sinks) → IsLoad words count opts
     → LoadAnswered count opts status old new → IfSome o (λ text. Writes words text status old new)

@@ -2,7 +2,6 @@
 use Rattle.std.specs.Prelude.{◌≡◌, ◌≤◌, ◌⊎◌, ℕ, List, length}
 use Rattle.svr_limits.specs.declared.limit.TheConstants.{TEXT_LIMIT}
 use Rattle.svr_typed.specs.StmtTerm.{DesignTerm}
-use Rattle.svr_phase.specs.declared.options.Options.{Options}
 use Rattle.svr_script.specs.Ending as ending
 use Rattle.svr_script.specs.Ending.{Output}
 use Rattle.svr_run_budget_laws.specs.Runs.{CallsAskLittle}
@@ -13,6 +12,7 @@ use Rattle.svr_lrat_text.specs.Faults.{IsFileOf}
 use Rattle.svr_token.specs.declared.token.Token.{Token}
 use Rattle.svr_seq.specs.SeqTerm.{SeqTerm}
 use Rattle.svr_seq_lines.specs.Said.{HasSeq}
+use Rattle.svr_words.specs.declared.request.Run.{Run}
 use Rattle.svr_words.specs.Words.{IsCommand, IsCheck, IsSeq}
 use Rattle.svr_refused.specs.Texts.{HasDesign, IsRefused}
 use Rattle.svr_answer.specs.Ends.{Ends}
@@ -24,11 +24,11 @@ use Rattle.svr_program.specs.Outcome.{Writes}
 
 -- The words ask for a run, nothing refuses the text, and no run of its script meets a limit.
 pub record IsAnswerable (words : List (List ℕ)) (text : List ℕ) : Type 0 where
-  pub opts : Options
-  pub asked : IsCommand words opts
+  pub run : Run
+  pub asked : IsCommand words run
   pub small : length text ≤ TEXT_LIMIT
   pub accepted : (line : List ℕ) → IsRefused text line → ⊥
-  pub unlimited : (output : Output) → Ends opts text ending.Limited output → ⊥
+  pub unlimited : (output : Output) → Ends run text ending.Limited output → ⊥
 
 -- each call was answered or given up, or memory was wanting
 abbrev pub IsAnswered : Status → Type 0
@@ -44,7 +44,7 @@ RunsAreComplete = (words : List (List ℕ)) (text : List ℕ) (status : Status) 
 -- such a script, in which each question that a call comes to is small
 pub record IsSmall (words : List (List ℕ)) (text : List ℕ) : Type 0 where
   pub answerable : IsAnswerable words text
-  pub little : (design : DesignTerm) → HasDesign text design → CallsAskLittle design answerable.opts
+  pub little : (design : DesignTerm) → HasDesign text design → CallsAskLittle design answerable.run.opts
 
 -- each call was answered, or memory was wanting
 abbrev pub IsAnsweredWhole : Status → Type 0

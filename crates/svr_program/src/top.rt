@@ -49,7 +49,7 @@ pub fn run<S: Source, K: Sink, J: Sink>(
         Err(AllocError) => return Status::NoMemory,
     };
     match request {
-        Request::Run(opts) => run_source(alloc, opts, src, out, journal),
+        Request::Run(asked) => run_source(alloc, asked, src, out, journal),
         Request::Load(asked) => load(alloc, asked, out, journal),
         Request::Check => check_source(alloc, src, out),
         Request::Seq(lines) => seq_source(alloc, lines.seed, lines.count, src, out),

@@ -39,7 +39,12 @@ fn words_of(alloc: Global, words: &[&str]) -> Vec<String> {
 }
 
 /// How a run ends, with what it writes to the two sinks.
-fn status_of(alloc: Global, asked: &Case<'_>, out: &mut MemSink, journal: &mut MemSink) -> Status {
+pub(crate) fn status_of(
+    alloc: Global,
+    asked: &Case<'_>,
+    out: &mut MemSink,
+    journal: &mut MemSink,
+) -> Status {
     let words = words_of(alloc, asked.words);
     let text = text_of(alloc, asked.text);
     let mut src = MemSource::new(text, 10, numbers(alloc, asked.read_fails));
@@ -47,7 +52,7 @@ fn status_of(alloc: Global, asked: &Case<'_>, out: &mut MemSink, journal: &mut M
 }
 
 /// A sink for what is printed, and a journal.
-fn sinks(alloc: Global, asked: &Case<'_>) -> Option<(MemSink, MemSink)> {
+pub(crate) fn sinks(alloc: Global, asked: &Case<'_>) -> Option<(MemSink, MemSink)> {
     let out = MemSink::new(alloc, asked.room, numbers(alloc, asked.write_fails));
     let journal = MemSink::new(alloc, 4000, Vec::new(alloc));
     out.ok().zip(journal.ok())

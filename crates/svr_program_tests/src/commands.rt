@@ -9,7 +9,7 @@ const SCRIPT: &[u8] =
 const LINES: &[u8] = b"#1 p 1 a=5\n#2 p 1 a=5\n#3 p 1 a=5\n";
 
 const USAGE: &[u8] =
-    b"usage: svrand run [--seed N] [--budget N] [--size-cap N] [--proofs]\n       svrand load N [--seed N] [--budget N] [--size-cap N] [--proofs]\n       svrand check\n       svrand seq [--seed N] [--count N]\n";
+    b"usage: svrand run [--seed N] [--budget N] [--size-cap N] [--proofs] [--conflicts] [--lrat]\n       svrand load N [--seed N] [--budget N] [--size-cap N] [--proofs]\n       svrand check\n       svrand seq [--seed N] [--count N]\n";
 
 /// Words, and what a run with them ends with and prints.
 struct Words {
@@ -18,7 +18,7 @@ struct Words {
     written: &'static [u8],
 }
 
-const WORDS: [Words; 38] = [
+const WORDS: [Words; 47] = [
     Words {
         words: &["run"],
         status: Status::AllOne,
@@ -48,6 +48,52 @@ const WORDS: [Words; 38] = [
         words: &["run", "--budget=16777216", "--seed=+7", "--size-cap=1"],
         status: Status::AllOne,
         written: LINES,
+    },
+    // The flags of a run alone: where each call answers 1 they print nothing more.
+    Words {
+        words: &["run", "--conflicts"],
+        status: Status::AllOne,
+        written: LINES,
+    },
+    Words {
+        words: &["run", "--lrat", "--proofs", "--conflicts"],
+        status: Status::AllOne,
+        written: LINES,
+    },
+    Words {
+        words: &["run", "--lrat", "--lrat"],
+        status: Status::Usage,
+        written: USAGE,
+    },
+    Words {
+        words: &["run", "--conflicts=true"],
+        status: Status::Usage,
+        written: USAGE,
+    },
+    Words {
+        words: &["run", "--conflicts", "--conflicts"],
+        status: Status::Usage,
+        written: USAGE,
+    },
+    Words {
+        words: &["load", "1", "--conflicts"],
+        status: Status::Usage,
+        written: USAGE,
+    },
+    Words {
+        words: &["load", "1", "--lrat"],
+        status: Status::Usage,
+        written: USAGE,
+    },
+    Words {
+        words: &["check", "--lrat"],
+        status: Status::Usage,
+        written: USAGE,
+    },
+    Words {
+        words: &["seq", "--conflicts"],
+        status: Status::Usage,
+        written: USAGE,
     },
     Words {
         words: &[],

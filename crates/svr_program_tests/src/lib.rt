@@ -10,6 +10,8 @@ mod checks;
 #[cfg(test)]
 mod commands;
 #[cfg(test)]
+mod flags;
+#[cfg(test)]
 mod held;
 #[cfg(test)]
 mod scripts;

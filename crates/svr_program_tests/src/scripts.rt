@@ -7,7 +7,7 @@ use std::alloc::Global;
 use svr_status::Status;
 
 /// A class with these items in it, one object of it, and these statements.
-fn script(alloc: Global, items: &[u8], stmts: &[u8]) -> Vec<u8> {
+pub(crate) fn script(alloc: Global, items: &[u8], stmts: &[u8]) -> Vec<u8> {
     let mut text = Vec::new(alloc);
     joined(&mut text, CLASS);
     joined(&mut text, items);
@@ -18,15 +18,15 @@ fn script(alloc: Global, items: &[u8], stmts: &[u8]) -> Vec<u8> {
 }
 
 /// Words, a class with these items, and these statements: how the run ends, and what it prints.
-struct Run {
-    words: &'static [&'static str],
-    items: &'static [u8],
-    stmts: &'static [u8],
-    status: Status,
-    written: &'static [u8],
+pub(crate) struct Run {
+    pub words: &'static [&'static str],
+    pub items: &'static [u8],
+    pub stmts: &'static [u8],
+    pub status: Status,
+    pub written: &'static [u8],
 }
 
-fn prints(alloc: Global, row: &Run) -> bool {
+pub(crate) fn prints(alloc: Global, row: &Run) -> bool {
     let text = script(alloc, row.items, row.stmts);
     says(alloc, &plain(row.words, &text), row.status, row.written)
 }
@@ -172,19 +172,19 @@ fn scripts_print_their_lines(rt: HostRuntime) {
     }
 }
 
-const UNEQUAL: &[u8] =
+pub(crate) const UNEQUAL: &[u8] =
     b"rand bit a; rand bit b; rand bit c; constraint u { a != b; b != c; a != c; }";
 
 /// Words, a class with these items, and these statements: how the run ends, how what it prints begins and ends, and how the journal begins.
-struct Front {
-    words: &'static [&'static str],
-    items: &'static [u8],
-    stmts: &'static [u8],
-    status: Status,
-    fronts: Fronts,
+pub(crate) struct Front {
+    pub words: &'static [&'static str],
+    pub items: &'static [u8],
+    pub stmts: &'static [u8],
+    pub status: Status,
+    pub fronts: Fronts,
 }
 
-fn is_told(alloc: Global, row: &Front) -> bool {
+pub(crate) fn is_told(alloc: Global, row: &Front) -> bool {
     let text = script(alloc, row.items, row.stmts);
     tells(alloc, &plain(row.words, &text), row.status, &row.fronts)
 }

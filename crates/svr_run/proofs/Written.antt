@@ -1,5 +1,5 @@
 -- What is written behind one another, or up to a fault, and what is counted.
-use Rattle.std.proofs.Common.{◌≡◌, ◌≤◌, ◌+◌, ◌⊎◌, inl, inr, ℕ, cond, refl, sym, ◌∙◌, ap, subst, List, [], ◌∷◌, ◌++◌, length, take, append-nil, append_assoc, arith, Bool, true, false, Option, Result, Ok, Err, OnOk, OnErr, IfErr, IsErrAnd}
+use Rattle.std.proofs.Common.{◌≡◌, ◌≤◌, ◌+◌, ◌⊎◌, inl, inr, ℕ, cond, refl, sym, ◌∙◌, ap, subst, List, [], ◌∷◌, ◌++◌, length, take, append-nil, append_assoc, arith, Bool, true, false, Option, Some, None, Result, Ok, Err, OnOk, OnErr, IfErr, IsErrAnd}
 use Rattle.std.specs.Io.KnownBytes.{Appends}
 use Rattle.std.specs.List.{count_by}
 use Rattle.std.proofs.KnownBytes.{Appends-nil, Appends-trans}
@@ -14,14 +14,15 @@ use Rattle.svr_frame.specs.Frame.{FrameTerm}
 use Rattle.svr_call.specs.declared.outcome.Outcome.{Outcome}
 use Rattle.svr_call.specs.Items.{is_one}
 use Rattle.svr_script.specs.Printed.{Event}
-use Rattle.svr_script.specs.Statement.{name_of_var, class_of_var}
+use Rattle.svr_script.specs.Statement.{name_of_var, class_of_var, flat_of_var}
 use Rattle.svr_script.specs.Run.{Printing, text_of, journal_of, event_text, event_log, is_zero, is_given_up}
 use Rattle.svr_script.proofs.Runs.{text_joined, journal_joined}
+use Rattle.svr_run.specs.declared.conflict.Contradiction.{Contradiction}
 use Rattle.svr_run.specs.declared.progress.Counts.{Counts}
 use Rattle.svr_run.specs.declared.stop.Stop.{Stop}
-use Rattle.svr_run.specs.declared.stop.Stop.TheVariants.{WriteFault}
+use Rattle.svr_run.specs.declared.stop.Stop.TheVariants.{NoMemory, WriteFault}
 use Rattle.svr_run.specs.declared.progress.Progress.{Progress}
-use Rattle.svr_run.specs.Events.{IsCause, event_in}
+use Rattle.svr_run.specs.Events.{AreNamed, IsCause, IsCauseAt, end_in, names_in, names_at, event_in}
 use Rattle.svr_run.specs.Telling.{Sinks, sinks, Tells, TellsFront, SinkFailed, HasCounts, counted}
 
 -- ---- fronts
@@ -56,7 +57,7 @@ front_join how es fs a b c h k = record {
   journal_later = subst (λ (n : ℕ). n ≤ c.journal_faults) h.journal_kept k.journal_later;
 }
 
-no_less : (m n : ℕ) → n ≡ m → m ≤ n
+pub no_less : (m n : ℕ) → n ≡ m → m ≤ n
 no_less m n e = omega arith
 
 -- all of it is a front
@@ -142,6 +143,13 @@ with_text b text e = ap (λ (x : Bool). cond x text []) (sym e)
 pub without_text : (b : Bool) (text : List ℕ) → b ≡ false → [] ≡ cond b text []
 without_text b text e = ap (λ (x : Bool). cond x text []) (sym e)
 
+-- one of two texts
+pub first_text : (b : Bool) (s t : List ℕ) → b ≡ true → s ≡ cond b s t
+first_text b s t e = ap (λ (x : Bool). cond x s t) (sym e)
+
+pub second_text : (b : Bool) (s t : List ℕ) → b ≡ false → t ≡ cond b s t
+second_text b s t e = ap (λ (x : Bool). cond x s t) (sym e)
+
 -- ---- what a result says
 
 pub all_ok : {T E : Type 0} (r : Result T E) (A B C D Q : Type 0) → OnOk r A → OnOk r B → OnOk r C → OnOk r D → (A → B → C → D → Q) → OnOk r Q
@@ -168,18 +176,54 @@ pub failed_as : {T E : Type 0} (r : Result T E) (P Q : E → Type 0) → IsErrAn
 failed_as (Ok x) P Q h f = absurd h
 failed_as (Err e) P Q h f = f e h
 
+-- what holds of a result in either case
+pub in_any_case : {T E : Type 0} (r : Result T E) (A B Q : Type 0) → OnOk r A → OnErr r B → (A → Q) → (B → Q) → Q
+in_any_case (Ok x) A B Q a b f h = f a
+in_any_case (Err e) A B Q a b f h = h b
+
 pub fault_is_cause : (why : Stop) (a b : Sinks) → SinkFailed a b → why ≡ WriteFault → IsCause why a b
 fault_is_cause why a b failed e = subst (λ (w : Stop). IsCause w a b) (sym e) failed
+
+-- the first of two sinks failed
+pub cause_of_out : (why : Stop) (x y : Option (List ℕ)) (m n : ℕ) (p : Option (List ℕ)) (k : ℕ) → IsCauseAt why m n → IsCause why (sinks x m p k) (sinks y n p k)
+cause_of_out NoMemory x y m n p k h = tt
+cause_of_out WriteFault x y m n p k h = inl h
+
+pub cause_at : (why cause : Stop) (m n : ℕ) → why ≡ cause → IsCauseAt cause m n → IsCauseAt why m n
+cause_at why cause m n e h = subst (λ (w : Stop). IsCauseAt w m n) (sym e) h
 
 pub same_cause : (why cause : Stop) (a b : Sinks) → why ≡ cause → IsCause cause a b → IsCause why a b
 same_cause why cause a b e h = subst (λ (w : Stop). IsCause w a b) (sym e) h
 
 -- ---- the event of a call
 
-abbrev pub named : DesignTerm → Progress → CallTerm → FrameTerm → Outcome → List ℕ → List (List ℕ) → Event
-named d p c f o object numbers = record { number = p.calls + 1; object = object; class = class_of_var d c.object; frame = f; outcome = o; after = numbers }
+-- with what was found of items that contradict each other, and these names
+abbrev pub named : DesignTerm → Progress → CallTerm → FrameTerm → Outcome → Option Contradiction → List (List ℕ) → List ℕ → List (List ℕ) → Event
+named d p c f o found names object numbers =
+    record { number = p.calls + 1; object = object; class = class_of_var d c.object; frame = f; outcome = o; after = numbers; names = names; conflict = end_in found }
 
-pub event_is : (d : DesignTerm) (p : Progress) (c : CallTerm) (f : FrameTerm) (o : Outcome) (object : List ℕ) (numbers : List (List ℕ)) → object ≡ name_of_var d c.object → numbers ≡ (object_of p.world c.object).values
-    → named d p c f o object numbers ≡ event_in d p c f o
-event_is d p c f o object numbers is_object is_numbers =
-    ap (λ (x : List ℕ). named d p c f o x numbers) is_object ∙ ap (λ (y : List (List ℕ)). named d p c f o (name_of_var d c.object) y) is_numbers
+-- where none are told, nothing told has a name of an item
+told_named : (how : Printing) (d : DesignTerm) (p : Progress) (c : CallTerm) (f : FrameTerm) (o : Outcome) (found : Option Contradiction) (names : List (List ℕ)) (object : List ℕ) (numbers : List (List ℕ)) (a b : Sinks)
+    → AreNamed names found → Tells how (named d p c f o found (names_in found) object numbers ∷ []) a b → Tells how (named d p c f o found names object numbers ∷ []) a b
+told_named how d p c f o None names object numbers a b none h = record { printed = h.printed; logged = h.logged; out_kept = h.out_kept; journal_kept = h.journal_kept }
+told_named how d p c f o (Some x) names object numbers a b is h = subst (λ (ns : List (List ℕ)). Tells how (named d p c f o (Some x) ns object numbers ∷ []) a b) is h
+
+front_named : (how : Printing) (d : DesignTerm) (p : Progress) (c : CallTerm) (f : FrameTerm) (o : Outcome) (found : Option Contradiction) (names : List (List ℕ)) (object : List ℕ) (numbers : List (List ℕ)) (a b : Sinks)
+    → AreNamed names found → TellsFront how (named d p c f o found (names_in found) object numbers ∷ []) a b → TellsFront how (named d p c f o found names object numbers ∷ []) a b
+front_named how d p c f o None names object numbers a b none h = record { printed = h.printed; logged = h.logged; out_later = h.out_later; journal_later = h.journal_later }
+front_named how d p c f o (Some x) names object numbers a b is h = subst (λ (ns : List (List ℕ)). TellsFront how (named d p c f o (Some x) ns object numbers ∷ []) a b) is h
+
+module _ (how : Printing) (d : DesignTerm) (p : Progress) (c : CallTerm) (f : FrameTerm) (o : Outcome) (found : Option Contradiction) (object : List ℕ) (numbers : List (List ℕ)) (a b : Sinks) where
+  abbrev all_names : List (List ℕ)
+  all_names = names_at (flat_of_var d c.object) p.world c
+
+  module _ (is_object : object ≡ name_of_var d c.object) (is_numbers : numbers ≡ (object_of p.world c.object).values) (are_named : AreNamed all_names found) where
+    event_is : named d p c f o found all_names object numbers ≡ event_in d p c f o (end_in found)
+    event_is = ap (λ (x : List ℕ). named d p c f o found all_names x numbers) is_object ∙ ap (λ (y : List (List ℕ)). named d p c f o found all_names (name_of_var d c.object) y) is_numbers
+
+    -- what was told of it is what the next call tells
+    pub told_in : Tells how (named d p c f o found (names_in found) object numbers ∷ []) a b → Tells how (event_in d p c f o (end_in found) ∷ []) a b
+    told_in h = told_as how (named d p c f o found all_names object numbers) (event_in d p c f o (end_in found)) a b event_is (told_named how d p c f o found all_names object numbers a b are_named h)
+
+    pub front_in : TellsFront how (named d p c f o found (names_in found) object numbers ∷ []) a b → TellsFront how (event_in d p c f o (end_in found) ∷ []) a b
+    front_in h = front_as how (named d p c f o found all_names object numbers) (event_in d p c f o (end_in found)) a b event_is (front_named how d p c f o found all_names object numbers a b are_named h)

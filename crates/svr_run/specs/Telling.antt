@@ -1,5 +1,5 @@
 -- What the two sinks tell of a run, and what is counted of it.
-use Rattle.std.specs.Prelude.{◌≡◌, ◌≤◌, ◌+◌, ◌⊎◌, ℕ, cond, List}
+use Rattle.std.specs.Prelude.{◌≡◌, ◌≤◌, ◌+◌, ◌⊎◌, ℕ, false, cond, List}
 use Rattle.std.specs.declared.option.Option.{Option}
 use Rattle.std.specs.Io.KnownBytes.{Appends}
 use Rattle.svr_edge.specs.Causes.{Rose}
@@ -11,12 +11,17 @@ use Rattle.svr_call.specs.Items.{is_one}
 use Rattle.svr_script.specs.Printed.{Event}
 use Rattle.svr_script.specs.Run.{Printing, text_of, journal_of, counts_of, is_zero, is_given_up}
 use Rattle.svr_run.specs.declared.progress.Counts.{Counts}
+use Rattle.svr_run.specs.declared.extra.Extra.{Extra}
 
 -- ---- what is written
 
--- proofs are printed where the options say so
-abbrev pub printing_of : Options → Printing
-printing_of opts = record { proofs = opts.proofs }
+-- proofs are printed where the options say so, and what is asked for besides
+abbrev pub printing_of : Options → Extra → Printing
+printing_of opts extra = record { proofs = opts.proofs; conflicts = extra.conflicts; lrat = extra.lrat }
+
+-- nothing is asked for besides
+abbrev pub no_extra : Extra
+no_extra = record { conflicts = false; lrat = false }
 
 -- What the two sinks tell: the bytes that they have, where they tell them, and how many of their calls failed.
 pub record Sinks : Type 0 where

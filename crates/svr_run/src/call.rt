@@ -1,19 +1,22 @@
 // Calls of `randomize` (IEEE 1800-2017, 18.6).
 
-ghost use Rattle.std.specs.Prelude.{◌≡◌, ◌+◌, ◌<◌, ◌≤◌, ◌^◌, ◌∷◌, [], false, OnOk, OnErr, IfErr};
+ghost use Rattle.std.specs.Prelude.{◌≡◌, ◌+◌, ◌<◌, ◌≤◌, ◌^◌, ◌∷◌, [], false, length, OnOk, OnErr, IfErr};
 ghost use Rattle.svr_typed.specs.StmtTerm as term;
 ghost use Rattle.svr_typed.specs.StmtTerm.{call_term, design_term};
 ghost use Rattle.svr_effect.specs.Inherited.{AreClasses};
 ghost use Rattle.svr_frame.specs.Frame.{frame_term};
 ghost use Rattle.svr_frame.specs.Sound.{IsSound};
 ghost use Rattle.svr_call.specs.Items.{is_one};
-ghost use Rattle.svr_script.specs.Statement.{frame_in};
+ghost use Rattle.svr_derived.specs.Shown.{AreShown};
+ghost use Rattle.svr_script.specs.Statement.{flat_of_var, frame_in};
 ghost use Rattle.svr_script.specs.Run as spec;
 ghost use Rattle.svr_run.specs.CanRun.{AreAllowed, CanRun};
 ghost use Rattle.svr_run.specs.Telling.{Tells, TellsFront, counted, printing_of, sinks};
-ghost use Rattle.svr_run.specs.Events.{IsCause, event_in};
+ghost use Rattle.svr_run.specs.Events.{AreNamed, IsCause, IsNotTold, IsTold, end_in, event_in, names_at};
+ghost use Rattle.svr_run.specs.Fitting.{ZeroFits};
 ghost use Rattle.svr_run.specs.Reached.{Breaks, Goes, Halts, IsBefore, IsNext, Steps, state_of};
 
+use crate::conflict::{Contradiction, conflict_of};
 use crate::progress::{Progress, is_limit, take_answer};
 use crate::script::{Script, name_of_var};
 use crate::stop::Stop;
@@ -21,7 +24,6 @@ use crate::tell::{Told, tell};
 use std::alloc::Global;
 use svr_call::Outcome;
 use svr_edge::Sink;
-use svr_effect::class_of_var;
 use svr_frame::Frame;
 use svr_frame_of::make_frame;
 use svr_randomize::randomize;
@@ -29,22 +31,26 @@ use svr_typed::CallStmt;
 
 /// What was answered is told, counted, and handed to the variable that takes it.
 fn settle<K: Sink, J: Sink>(
+    alloc: Global,
     script: &Script<'_>,
     progress: &mut Progress,
     call: &CallStmt,
     frame: &Frame,
     outcome: &Outcome,
+    conflict: &Option<Contradiction>,
     out: &mut K,
     journal: &mut J,
 ) -> Result<(), Stop>
     requires few { progress.old.calls + 1 < 2 ^ 64 }
     requires counts { progress.old.counts.ones + progress.old.counts.zeros + progress.old.counts.given_up ≤ progress.old.calls }
+    requires shown { AreShown outcome.now }
+    requires named { AreNamed (names_at (flat_of_var (design_term script.now.design.now) call.now.object) progress.old.world (call_term call.now)) conflict.now }
     ensures state { OnOk result (state_of progress.new ≡ record { world = spec.with_answer call.now.result (is_one outcome.now) progress.old.world; calls = progress.old.calls + 1; limited = spec.is_limit outcome.now }) }
     ensures counts { OnOk result (progress.new.counts ≡ counted progress.old.counts outcome.now) }
-    ensures told { OnOk result (Tells (printing_of script.now.opts) (event_in (design_term script.now.design.now) progress.old (call_term call.now) (frame_term frame.now) outcome.now ∷ [])
+    ensures told { OnOk result (Tells (printing_of script.now.opts script.now.extra) (event_in (design_term script.now.design.now) progress.old (call_term call.now) (frame_term frame.now) outcome.now (end_in conflict.now) ∷ [])
         (sinks (K.written out.old) (K.faults out.old) (J.written journal.old) (J.faults journal.old))
         (sinks (K.written out.new) (K.faults out.new) (J.written journal.new) (J.faults journal.new))) }
-    ensures front { OnErr result (TellsFront (printing_of script.now.opts) (event_in (design_term script.now.design.now) progress.old (call_term call.now) (frame_term frame.now) outcome.now ∷ [])
+    ensures front { OnErr result (TellsFront (printing_of script.now.opts script.now.extra) (event_in (design_term script.now.design.now) progress.old (call_term call.now) (frame_term frame.now) outcome.now (end_in conflict.now) ∷ [])
         (sinks (K.written out.old) (K.faults out.old) (J.written journal.old) (J.faults journal.old))
         (sinks (K.written out.new) (K.faults out.new) (J.written journal.new) (J.faults journal.new))) }
     ensures cause { IfErr result (λ why. IsCause why
@@ -57,13 +63,56 @@ fn settle<K: Sink, J: Sink>(
         frame,
         outcome,
         after: progress.world.values(call.object),
+        conflict,
     };
-    tell(script.opts, &told, out, journal)?;
+    tell(alloc, script.opts, script.extra, &told, out, journal)?;
     progress.calls += 1;
     progress.limited = is_limit(outcome);
     progress.counts = progress.counts.plus(outcome);
     take_answer(&mut progress.world, call.result, outcome);
     Ok(())
+}
+
+/// What was answered is told with the items that contradict each other, where they are asked for.
+fn answered<K: Sink, J: Sink>(
+    alloc: Global,
+    script: &Script<'_>,
+    progress: &mut Progress,
+    call: &CallStmt,
+    frame: &Frame,
+    outcome: &Outcome,
+    out: &mut K,
+    journal: &mut J,
+) -> Result<(), Stop>
+    requires few { progress.old.calls + 1 < 2 ^ 64 }
+    requires counts { progress.old.counts.ones + progress.old.counts.zeros + progress.old.counts.given_up ≤ progress.old.calls }
+    requires budget { 1 ≤ script.now.opts.budget }
+    requires class { (frame_term frame.now).class ≡ flat_of_var (design_term script.now.design.now) call.now.object }
+    requires few_blocks { length (frame_term frame.now).class.blocks < 2 ^ 32 }
+    requires sound { IsSound (frame_term frame.now) }
+    requires fits { ZeroFits (frame_term frame.now) outcome.now }
+    requires shown { AreShown outcome.now }
+    ensures state { OnOk result (state_of progress.new ≡ record { world = spec.with_answer call.now.result (is_one outcome.now) progress.old.world; calls = progress.old.calls + 1; limited = spec.is_limit outcome.now }) }
+    ensures counts { OnOk result (progress.new.counts ≡ counted progress.old.counts outcome.now) }
+    ensures told { OnOk result (IsTold (design_term script.now.design.now) script.now.opts script.now.extra progress.old (call_term call.now) (frame_term frame.now) outcome.now
+        (sinks (K.written out.old) (K.faults out.old) (J.written journal.old) (J.faults journal.old))
+        (sinks (K.written out.new) (K.faults out.new) (J.written journal.new) (J.faults journal.new))) }
+    ensures not_told { IfErr result (λ why. IsNotTold (design_term script.now.design.now) script.now.opts script.now.extra progress.old (call_term call.now) (frame_term frame.now) outcome.now why
+        (sinks (K.written out.old) (K.faults out.old) (J.written journal.old) (J.faults journal.old))
+        (sinks (K.written out.new) (K.faults out.new) (J.written journal.new) (J.faults journal.new))) }
+{
+    let conflict = conflict_of(
+        alloc,
+        script.extra.conflicts,
+        &progress.world,
+        call,
+        frame,
+        outcome,
+        script.opts.budget,
+    )?;
+    settle(
+        alloc, script, progress, call, frame, outcome, &conflict, out, journal,
+    )
 }
 
 /// The answer of a call in its frame.
@@ -79,14 +128,14 @@ fn answer<K: Sink, J: Sink>(
     requires allowed { AreAllowed script.now.opts }
     requires can_run { CanRun (design_term script.now.design.now) script.now.opts }
     requires going { progress.old.limited ≡ false }
-    requires next { IsNext (design_term script.now.design.now) script.now.opts (term.call (call_term call.now)) progress.old
+    requires next { IsNext (design_term script.now.design.now) script.now.opts script.now.extra (term.call (call_term call.now)) progress.old
         (sinks (K.written out.old) (K.faults out.old) (J.written journal.old) (J.faults journal.old)) }
     requires framed { frame_term frame.now ≡ frame_in (design_term script.now.design.now) progress.old.world (call_term call.now) }
     requires sound { IsSound (frame_term frame.now) }
-    ensures steps { OnOk result (Steps (design_term script.now.design.now) script.now.opts (term.call (call_term call.now)) progress.old
+    ensures steps { OnOk result (Steps (design_term script.now.design.now) script.now.opts script.now.extra (term.call (call_term call.now)) progress.old
         (sinks (K.written out.old) (K.faults out.old) (J.written journal.old) (J.faults journal.old)) progress.new
         (sinks (K.written out.new) (K.faults out.new) (J.written journal.new) (J.faults journal.new))) }
-    ensures halts { IfErr result (λ why. Halts (design_term script.now.design.now) script.now.opts (term.call (call_term call.now)) progress.old
+    ensures halts { IfErr result (λ why. Halts (design_term script.now.design.now) script.now.opts script.now.extra (term.call (call_term call.now)) progress.old
         (sinks (K.written out.old) (K.faults out.old) (J.written journal.old) (J.faults journal.old)) why
         (sinks (K.written out.new) (K.faults out.new) (J.written journal.new) (J.faults journal.new))) }
 {
@@ -99,7 +148,7 @@ fn answer<K: Sink, J: Sink>(
         number,
         script.opts,
     )?;
-    settle(script, progress, call, frame, &outcome, out, journal)
+    answered(alloc, script, progress, call, frame, &outcome, out, journal)
 }
 
 /// Executes a call: it answers, and what it tells is written.
@@ -115,17 +164,16 @@ pub(crate) fn execute_call<K: Sink, J: Sink>(
     requires allowed { AreAllowed script.now.opts }
     requires can_run { CanRun (design_term script.now.design.now) script.now.opts }
     requires going { progress.old.limited ≡ false }
-    requires before { IsBefore (design_term script.now.design.now) script.now.opts (term.call (call_term call.now) ∷ []) progress.old
+    requires before { IsBefore (design_term script.now.design.now) script.now.opts script.now.extra (term.call (call_term call.now) ∷ []) progress.old
         (sinks (K.written out.old) (K.faults out.old) (J.written journal.old) (J.faults journal.old)) }
-    ensures goes { OnOk result (Goes (design_term script.now.design.now) script.now.opts (term.call (call_term call.now) ∷ []) progress.old
+    ensures goes { OnOk result (Goes (design_term script.now.design.now) script.now.opts script.now.extra (term.call (call_term call.now) ∷ []) progress.old
         (sinks (K.written out.old) (K.faults out.old) (J.written journal.old) (J.faults journal.old)) progress.new
         (sinks (K.written out.new) (K.faults out.new) (J.written journal.new) (J.faults journal.new))) }
-    ensures breaks { IfErr result (λ why. Breaks (design_term script.now.design.now) script.now.opts (term.call (call_term call.now) ∷ []) progress.old
+    ensures breaks { IfErr result (λ why. Breaks (design_term script.now.design.now) script.now.opts script.now.extra (term.call (call_term call.now) ∷ []) progress.old
         (sinks (K.written out.old) (K.faults out.old) (J.written journal.old) (J.faults journal.old)) why
         (sinks (K.written out.new) (K.faults out.new) (J.written journal.new) (J.faults journal.new))) }
 {
-    let class = class_of_var(script.design, call.object);
-    let flat = script.classes.get(script.design, class);
+    let flat = script.classes.of_var(script.design, call.object);
     let frame = make_frame(alloc, script.design, flat, &progress.world, call)?;
     answer(alloc, script, progress, call, &frame, out, journal)
 }

@@ -26,9 +26,9 @@ pub(crate) fn execute_plain(
     requires can_run { CanRun (design_term script.now.design.now) script.now.opts }
     requires plain { is_plain (stmt_term stmt.now) ≡ true }
     requires going { progress.old.limited ≡ false }
-    requires before { (now : Sinks) × IsBefore (design_term script.now.design.now) script.now.opts (in_order (stmt_term stmt.now)) progress.old now }
-    ensures goes { OnOk result ((now : Sinks) → Goes (design_term script.now.design.now) script.now.opts (in_order (stmt_term stmt.now)) progress.old now progress.new now) }
-    ensures breaks { IfErr result (λ why. (now : Sinks) → Breaks (design_term script.now.design.now) script.now.opts (in_order (stmt_term stmt.now)) progress.old now why now) }
+    requires before { (now : Sinks) × IsBefore (design_term script.now.design.now) script.now.opts script.now.extra (in_order (stmt_term stmt.now)) progress.old now }
+    ensures goes { OnOk result ((now : Sinks) → Goes (design_term script.now.design.now) script.now.opts script.now.extra (in_order (stmt_term stmt.now)) progress.old now progress.new now) }
+    ensures breaks { IfErr result (λ why. (now : Sinks) → Breaks (design_term script.now.design.now) script.now.opts script.now.extra (in_order (stmt_term stmt.now)) progress.old now why now) }
 {
     execute(
         alloc,

@@ -4,6 +4,7 @@ ghost use Rattle.std.specs.Prelude.{◌≡◌};
 ghost use Rattle.svr_typed.specs.StmtTerm.{design_term};
 ghost use Rattle.svr_script.specs.Statement as spec;
 
+use crate::extra::Extra;
 use svr_effect::Classes;
 use svr_phase::Options;
 use svr_typed::Design;
@@ -14,6 +15,7 @@ pub(crate) struct Script<'a> {
     pub(crate) design: &'a Design,
     pub(crate) classes: &'a Classes,
     pub(crate) opts: Options,
+    pub(crate) extra: Extra,
 }
 
 /// The name of a script variable, empty where there is none.

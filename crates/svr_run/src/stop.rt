@@ -29,6 +29,28 @@ impl From<svr_randomize::NoMemory> for Stop {
     }
 }
 
+impl From<svr_conflict::NoMemory> for Stop {
+    ghost use Rattle.std.specs.Prelude.{◌≡◌};
+    ghost use Rattle.svr_run.specs.declared.stop.Stop.TheVariants.{NoMemory};
+
+    ghost from_gives = { λ _ e. e ≡ NoMemory };
+
+    fn from(_error: svr_conflict::NoMemory) -> Stop {
+        Stop::NoMemory
+    }
+}
+
+impl From<svr_chain::NoMemory> for Stop {
+    ghost use Rattle.std.specs.Prelude.{◌≡◌};
+    ghost use Rattle.svr_run.specs.declared.stop.Stop.TheVariants.{NoMemory};
+
+    ghost from_gives = { λ _ e. e ≡ NoMemory };
+
+    fn from(_error: svr_chain::NoMemory) -> Stop {
+        Stop::NoMemory
+    }
+}
+
 impl From<svr_edge::Failed> for Stop {
     ghost use Rattle.std.specs.Prelude.{◌≡◌};
     ghost use Rattle.svr_run.specs.declared.stop.Stop.TheVariants.{WriteFault};

@@ -30,12 +30,12 @@ fn walk_one<K: Sink, J: Sink>(
     requires classes { AreClasses (design_term script.now.design.now) script.now.classes.now }
     requires allowed { AreAllowed script.now.opts }
     requires can_run { CanRun (design_term script.now.design.now) script.now.opts }
-    requires before { IsBefore (design_term script.now.design.now) script.now.opts (in_order (stmt_term stmt.now)) progress.old
+    requires before { IsBefore (design_term script.now.design.now) script.now.opts script.now.extra (in_order (stmt_term stmt.now)) progress.old
         (sinks (K.written out.old) (K.faults out.old) (J.written journal.old) (J.faults journal.old)) }
-    ensures goes { OnOk result (Goes (design_term script.now.design.now) script.now.opts (in_order (stmt_term stmt.now)) progress.old
+    ensures goes { OnOk result (Goes (design_term script.now.design.now) script.now.opts script.now.extra (in_order (stmt_term stmt.now)) progress.old
         (sinks (K.written out.old) (K.faults out.old) (J.written journal.old) (J.faults journal.old)) progress.new
         (sinks (K.written out.new) (K.faults out.new) (J.written journal.new) (J.faults journal.new))) }
-    ensures breaks { IfErr result (λ why. Breaks (design_term script.now.design.now) script.now.opts (in_order (stmt_term stmt.now)) progress.old
+    ensures breaks { IfErr result (λ why. Breaks (design_term script.now.design.now) script.now.opts script.now.extra (in_order (stmt_term stmt.now)) progress.old
         (sinks (K.written out.old) (K.faults out.old) (J.written journal.old) (J.faults journal.old)) why
         (sinks (K.written out.new) (K.faults out.new) (J.written journal.new) (J.faults journal.new))) }
 {
@@ -74,12 +74,12 @@ pub(crate) fn walk_all<K: Sink, J: Sink>(
     requires classes { AreClasses (design_term script.now.design.now) script.now.classes.now }
     requires allowed { AreAllowed script.now.opts }
     requires can_run { CanRun (design_term script.now.design.now) script.now.opts }
-    requires before { IsBefore (design_term script.now.design.now) script.now.opts (all_in_order (stmt_terms stmts.now)) progress.old
+    requires before { IsBefore (design_term script.now.design.now) script.now.opts script.now.extra (all_in_order (stmt_terms stmts.now)) progress.old
         (sinks (K.written out.old) (K.faults out.old) (J.written journal.old) (J.faults journal.old)) }
-    ensures goes { OnOk result (Goes (design_term script.now.design.now) script.now.opts (all_in_order (stmt_terms stmts.now)) progress.old
+    ensures goes { OnOk result (Goes (design_term script.now.design.now) script.now.opts script.now.extra (all_in_order (stmt_terms stmts.now)) progress.old
         (sinks (K.written out.old) (K.faults out.old) (J.written journal.old) (J.faults journal.old)) progress.new
         (sinks (K.written out.new) (K.faults out.new) (J.written journal.new) (J.faults journal.new))) }
-    ensures breaks { IfErr result (λ why. Breaks (design_term script.now.design.now) script.now.opts (all_in_order (stmt_terms stmts.now)) progress.old
+    ensures breaks { IfErr result (λ why. Breaks (design_term script.now.design.now) script.now.opts script.now.extra (all_in_order (stmt_terms stmts.now)) progress.old
         (sinks (K.written out.old) (K.faults out.old) (J.written journal.old) (J.faults journal.old)) why
         (sinks (K.written out.new) (K.faults out.new) (J.written journal.new) (J.faults journal.new))) }
 {

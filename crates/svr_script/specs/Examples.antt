@@ -19,8 +19,10 @@ use Rattle.svr_call.specs.declared.outcome.Dropped.{Dropped}
 use Rattle.svr_call.specs.declared.outcome.Query.TheVariants as query
 use Rattle.svr_call.specs.declared.outcome.Outcome.{Outcome}
 use Rattle.svr_call.specs.declared.outcome.Outcome.TheVariants.{One, Zero, TooHeavy, SizeCap}
+use Rattle.svr_conflict.specs.declared.found.Member.{Member}
 use Rattle.svr_script.specs.Printed.{line_of, query_text}
 use Rattle.svr_script.specs.ProofText.{lits_line, slot_text, step_text, goal_text, reason_text}
+use Rattle.svr_script.specs.Conflicts.{members_text}
 
 -- ---- types, frames and answers
 
@@ -67,7 +69,10 @@ plain_one = One [] [] [] []
 
 -- the line of a call of this number on `p`
 abbrev pub line : ℕ → FrameTerm → Outcome → List (List ℕ) → List ℕ
-line n f outcome after = line_of (record { number = n; object = codes "p"; class = 0; frame = f; outcome = outcome; after = after })
+line n f outcome after = line_of (record { number = n; object = codes "p"; class = 0; frame = f; outcome = outcome; after = after; names = []; conflict = None })
+
+abbrev pub member : ℕ → Member
+member item = record { item = item; without = record { values = []; sizes = []; script = [] } }
 
 abbrev pub lit : ℕ → Bool → Lit
 lit v neg = record { var = v; neg = neg }
@@ -107,4 +112,10 @@ proof_texts =
     ∷ ((slot_text with_kind (slot.Scalar 0) ++ slot_text with_kind (slot.Element 1 3) ++ slot_text with_kind (slot.Size 1)) gives codes "kindd[3]d.size")
     ∷ ((reason_text with_kind why.Hard ++ reason_text with_kind why.Size ++ reason_text with_kind (why.Drop 2)) gives codes "hardsizedrop 2")
     ∷ ((reason_text with_kind (why.Randc 0 1) ++ reason_text with_a (why.Cycle 0 9)) gives codes "randc kind=WRITEcycle a=9")
+    ∷ []
+
+-- the first item of a block, the second of another, and the first of the in-line set
+abbrev pub conflict_texts : List Example
+conflict_texts =
+    (members_text (codes "c.1" ∷ codes "c.2" ∷ codes "d.1" ∷ codes "d.2" ∷ codes "with.1" ∷ []) (member 0 ∷ member 3 ∷ member 4 ∷ []) gives codes "conflict c.1 d.2 with.1\n")
     ∷ []

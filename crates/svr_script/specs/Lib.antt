@@ -1,5 +1,7 @@
 pub mod Printed
 pub mod ProofText
+pub mod Derived
+pub mod Conflicts
 pub mod Numbered
 pub mod Statement
 pub mod Run

@@ -18,8 +18,9 @@ use Rattle.svr_call.specs.declared.outcome.Query.{Query}
 use Rattle.svr_call.specs.declared.outcome.Query.TheVariants as query
 use Rattle.svr_call.specs.declared.outcome.Outcome.{Outcome}
 use Rattle.svr_call.specs.declared.outcome.Outcome.TheVariants.{One, Zero, GaveUp, TooHeavy, SizeCap}
+use Rattle.svr_conflict.specs.declared.found.ConflictEnd.{ConflictEnd}
 
--- What a call tells: its number, the name of its object variable and the object's class, the frame, the answer, and the object's numbers after it.
+-- What a call tells: its number, the name of its object variable and the object's class, the frame, the answer, the object's numbers after it, the name of each active item, and which of these contradict each other, where that was asked.
 pub record Event : Type 0 where
   pub number : ℕ
   pub object : List ℕ
@@ -27,6 +28,8 @@ pub record Event : Type 0 where
   pub frame : FrameTerm
   pub outcome : Outcome
   pub after : List (List ℕ)
+  pub names : List (List ℕ)
+  pub conflict : Option ConflictEnd
 
 -- ---- values
 

@@ -74,9 +74,13 @@ proof_over f (Some e) p = concat (codes "p " ∷ reason_text f p.reason ∷ code
 abbrev pub proof_text : FrameTerm → List Encoded → Proof → List ℕ
 proof_text f encodings p = proof_over f (slice_get encodings p.encoding) p
 
-abbrev pub log_text : FrameTerm → Query → Encoded → RefutationView → ℕ → List ℕ
-log_text f query e log first = concat (codes "p gaveup " ∷ query_text f query ∷ codes "\n" ∷ unknowns_text f e
+-- the log of a question in these words that was given up
+abbrev pub log_over : List ℕ → FrameTerm → Encoded → RefutationView → ℕ → List ℕ
+log_over question f e log first = concat (codes "p gaveup " ∷ question ∷ codes "\n" ∷ unknowns_text f e
     ∷ clauses_text e.cnf.clauses.items ∷ steps_text log.steps ∷ codes "f " ∷ decimal first ∷ codes "\ne\n" ∷ [])
+
+abbrev pub log_text : FrameTerm → Query → Encoded → RefutationView → ℕ → List ℕ
+log_text f query e log first = log_over (query_text f query) f e log first
 
 abbrev pub proofs_text : FrameTerm → List Encoded → List Proof → List ℕ
 proofs_text f encodings ps = flat_map (proof_text f encodings) ps

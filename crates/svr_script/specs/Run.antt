@@ -8,9 +8,13 @@ use Rattle.svr_call.specs.declared.outcome.Outcome.{Outcome}
 use Rattle.svr_call.specs.declared.outcome.Outcome.TheVariants.{One, Zero, GaveUp, TooHeavy, SizeCap}
 use Rattle.svr_call.specs.Call.{CallStep}
 use Rattle.svr_call.specs.Items.{is_one}
+use Rattle.svr_frame.specs.Frame.{FrameTerm}
+use Rattle.svr_item_names.specs.Names.{item_names}
 use Rattle.svr_script.specs.Printed.{Event, line_of}
 use Rattle.svr_script.specs.ProofText.{certificates_of, logs_of}
-use Rattle.svr_script.specs.Statement.{all_in_order, effect, frame_in, name_of_var, class_of_var}
+use Rattle.svr_script.specs.Derived.{derivations_of}
+use Rattle.svr_script.specs.Conflicts.{conflict_text, conflict_log}
+use Rattle.svr_script.specs.Statement.{all_in_order, effect, frame_in, name_of_var, class_of_var, flat_of_var}
 
 -- between two statements: the world, the calls so far, and whether one met a limit
 pub record State : Type 0 where
@@ -59,6 +63,7 @@ pub record Calls (d : DesignTerm) (opts : Options) (c : CallTerm) (s : State) (e
   pub world : WorldTerm
   pub answers : CallStep s.world c.object e.frame e.number opts e.outcome world
   pub after : e.after ≡ (object_of world c.object).values
+  pub names : e.names ≡ item_names (flat_of_var d c.object).blocks (object_of world c.object).block_modes c.items
   pub state : t ≡ record { world = with_answer c.answer (is_one e.outcome) world; calls = e.number; limited = is_limit e.outcome }
 
 -- a statement tells something only where it is a call
@@ -94,15 +99,32 @@ pub record IsRun (d : DesignTerm) (opts : Options) (es : List Event) (t : State)
 
 -- ---- its texts
 
--- what is printed besides lines (later: conflict sets, and proofs in another form)
+-- what is printed besides the lines of calls: proofs and logs, the items that contradict each other, and proofs as hinted derivations
 pub record Printing : Type 0 where
   pub proofs : Bool
+  pub conflicts : Bool
+  pub lrat : Bool
+
+-- The proofs of an answer as hinted derivations, or as they are found. The log of a question that was given up has one form, and is printed where proofs are.
+abbrev pub proofs_of : Printing → FrameTerm → Outcome → List ℕ
+proofs_of how f o = cond how.lrat (derivations_of f o ++ cond how.proofs (logs_of f o) []) (cond how.proofs (certificates_of f o) [])
 
 abbrev pub event_text : Printing → Event → List ℕ
-event_text how e = line_of e ++ cond how.proofs (certificates_of e.frame e.outcome) []
+event_text how e = line_of e ++ proofs_of how e.frame e.outcome ++ conflict_text how.proofs e e.conflict
 
 abbrev pub event_log : Event → List ℕ
-event_log e = logs_of e.frame e.outcome
+event_log e = logs_of e.frame e.outcome ++ conflict_log e e.conflict
+
+-- where proofs alone are printed besides the lines
+abbrev pub proofs_alone : Bool → Printing
+proofs_alone proofs = record { proofs = proofs; conflicts = false; lrat = false }
+
+-- what a call tells of itself, whatever is asked besides
+abbrev pub text_alone : Bool → Event → List ℕ
+text_alone proofs e = line_of e ++ cond proofs (certificates_of e.frame e.outcome) []
+
+abbrev pub log_alone : Event → List ℕ
+log_alone e = logs_of e.frame e.outcome
 
 abbrev pub text_of : Printing → List Event → List ℕ
 text_of how es = flat_map (event_text how) es

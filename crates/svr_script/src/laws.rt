@@ -1,11 +1,13 @@
 // Laws of the definitions that layers above cite: each function has an empty body, and its contract is the law.
 
-ghost use Rattle.std.specs.Prelude.{◌≡◌, ◌+◌, ◌++◌, ◌∷◌, ◌⊎◌, ℕ, true, false, List, [], length, take};
+ghost use Rattle.std.specs.Prelude.{◌≡◌, ◌+◌, ◌++◌, ◌∷◌, ◌⊎◌, ℕ, Bool, true, false, List, [], Some, flat_map, length, take};
 ghost use Rattle.std.specs.List.{count_by, list_all};
-ghost use Rattle.svr_typed.specs.StmtTerm.{StmtTerm, DesignTerm};
+ghost use Rattle.svr_typed.specs.StmtTerm.{CallTerm, StmtTerm, DesignTerm};
 ghost use Rattle.svr_phase.specs.declared.options.Options.{Options};
+ghost use Rattle.svr_conflict.specs.declared.found.ConflictEnd.{ConflictEnd};
 ghost use Rattle.svr_script.specs.Printed.{Event};
-ghost use Rattle.svr_script.specs.Run.{State, Counts, Executes, Runs, IsSoFar, IsRun, Printing, begin, counts_of, is_limit, event_log, event_text, journal_of, text_of};
+ghost use Rattle.svr_script.specs.Conflicts.{HasConflict, HasLine, HaveConflicts, is_unmet};
+ghost use Rattle.svr_script.specs.Run.{State, Counts, Calls, Executes, Runs, IsSoFar, IsRun, Printing, begin, counts_of, is_limit, event_log, event_text, journal_of, log_alone, proofs_alone, text_alone, text_of};
 ghost use Rattle.svr_script.specs.Ending.{Ending, HasEnding};
 ghost use Rattle.svr_script.specs.Examples as example;
 
@@ -34,6 +36,23 @@ pub fn texts_grow_at_the_end()
     ensures journal_front { (es : List Event) (e : Event) (n : ℕ) → journal_of es ++ take n (event_log e) ≡ take (length (journal_of es) + n) (journal_of (es ++ e ∷ [])) }
 {}
 
+/// Where nothing is asked for besides, a call tells its line and, where they are printed, its proofs; and the journal has the logs of calls that gave up alone.
+pub fn nothing_is_told_unasked()
+    ensures text { (proofs : Bool) (budget : ℕ) (es : List Event) → HaveConflicts false budget es → text_of (proofs_alone proofs) es ≡ flat_map (text_alone proofs) es }
+    ensures journal { (budget : ℕ) (es : List Event) → HaveConflicts false budget es → journal_of es ≡ flat_map log_alone es }
+{}
+
+/// Where the items that contradict each other are asked for, each 0 of the hard items has its line: no assignment that would meet them stands beside it.
+pub fn each_unmet_call_has_its_line()
+    ensures { (d : DesignTerm) (opts : Options) (c : CallTerm) (s : State) (e : Event) (t : State) → Calls d opts c s e t → HasConflict true opts.budget e → is_unmet e.outcome ≡ true → (end : ConflictEnd) × (e.conflict ≡ Some end) × HasLine end }
+{}
+
+/// The answers of a run are those of its parts.
+pub fn conflicts_are_those_of_the_calls()
+    ensures joined { (wanted : Bool) (budget : ℕ) (es fs : List Event) → HaveConflicts wanted budget es → HaveConflicts wanted budget fs → HaveConflicts wanted budget (es ++ fs) }
+    ensures cut { (wanted : Bool) (budget : ℕ) (es fs : List Event) → HaveConflicts wanted budget (es ++ fs) → HaveConflicts wanted budget es × HaveConflicts wanted budget fs }
+{}
+
 /// A run that has come to its end has just one ending.
 pub fn a_run_has_one_ending()
     ensures some { (t : State) (n : Counts) → (e : Ending) × HasEnding t n e }
@@ -45,8 +64,9 @@ pub fn each_call_is_counted_once()
     ensures { (es : List Event) → length es ≡ (counts_of es).ones + (counts_of es).zeros + (counts_of es).given_up + count_by (λ e. is_limit e.outcome) es }
 {}
 
-/// Lines of calls, and the parts of proof texts, are as they were worked out by hand.
+/// Lines of calls, the parts of proof texts, and the line of items that contradict each other are as they were worked out by hand.
 pub fn texts_are_as_worked_out()
     ensures lines { list_all example.is_so example.lines ≡ true }
     ensures proofs { list_all example.is_so example.proof_texts ≡ true }
+    ensures conflicts { list_all example.is_so example.conflict_texts ≡ true }
 {}

@@ -36,8 +36,9 @@ use Rattle.clap.proofs.CallerLemmas.{entry_by_id}
 use Rattle.clap.proofs.WalkLemmas.{one_text-rows}
 use Rattle.clap.proofs.OnLiterals.{clap_on_literals}
 use Rattle.svr_phase.specs.declared.options.Options.{Options}
-use Rattle.svr_words.specs.Words.{option, flag, run_command, class_count, load_command, check_command, seq_command, number_or, is_set, options_of, IsCommand, IsLoad, IsCheck, IsSeq, AskNothing}
-use Rattle.svr_words.specs.Taken.{IsNumber, IsTruth, AreTaken, LoadIsTaken, SeqIsTaken}
+use Rattle.svr_words.specs.declared.request.Run.{Run}
+use Rattle.svr_words.specs.Words.{option, flag, run_command, class_count, load_command, check_command, seq_command, number_or, is_set, options_of, run_of, IsCommand, IsLoad, IsCheck, IsSeq, AskNothing}
+use Rattle.svr_words.specs.Taken.{IsNumber, IsTruth, AreTaken, RunIsTaken, LoadIsTaken, SeqIsTaken}
 
 -- ---- the command
 
@@ -48,6 +49,10 @@ with_rest rest =
     ∷ option (codes "budget") (Unsigned 1 16777216)
     ∷ option (codes "size-cap") (Unsigned 1 2048)
     ∷ flag (codes "proofs") ∷ rest
+
+-- the flags that a run alone has
+abbrev run_flags : List Rule
+run_flags = flag (codes "conflicts") ∷ flag (codes "lrat") ∷ []
 
 -- ---- what stands in the matches
 
@@ -258,6 +263,30 @@ at_proofs P rest none (inr (inr (inl (e, h)))) = absurd (false≢true e)
 at_proofs P rest none (inr (inr (inr (inl (e, h))))) = h
 at_proofs P rest none (inr (inr (inr (inr later)))) = absurd (none later)
 
+at_conflicts : (P : ValueParser → Type 0) → Finds P (codes "conflicts") (with_rest run_flags) → P Truth
+at_conflicts P (inl (e, h)) = absurd (false≢true e)
+at_conflicts P (inr (inl (e, h))) = absurd (false≢true e)
+at_conflicts P (inr (inr (inl (e, h)))) = absurd (false≢true e)
+at_conflicts P (inr (inr (inr (inl (e, h))))) = absurd (false≢true e)
+at_conflicts P (inr (inr (inr (inr (inl (e, h)))))) = h
+at_conflicts P (inr (inr (inr (inr (inr (inl (e, h))))))) = absurd (false≢true e)
+at_conflicts P (inr (inr (inr (inr (inr (inr none)))))) = absurd none
+
+at_lrat : (P : ValueParser → Type 0) → Finds P (codes "lrat") (with_rest run_flags) → P Truth
+at_lrat P (inl (e, h)) = absurd (false≢true e)
+at_lrat P (inr (inl (e, h))) = absurd (false≢true e)
+at_lrat P (inr (inr (inl (e, h)))) = absurd (false≢true e)
+at_lrat P (inr (inr (inr (inl (e, h))))) = absurd (false≢true e)
+at_lrat P (inr (inr (inr (inr (inl (e, h)))))) = absurd (false≢true e)
+at_lrat P (inr (inr (inr (inr (inr (inl (e, h))))))) = h
+at_lrat P (inr (inr (inr (inr (inr (inr none)))))) = absurd none
+
+-- the flags of a run are none of the options
+no_flag : (P : ValueParser → Type 0) (name : Text) → bytes_eq (codes "conflicts") name ≡ false → bytes_eq (codes "lrat") name ≡ false → Finds P name run_flags → ⊥
+no_flag P name first second (inl (e, h)) = absurd (false≢true (sym first ∙ e))
+no_flag P name first second (inr (inl (e, h))) = absurd (false≢true (sym second ∙ e))
+no_flag P name first second (inr (inr none)) = none
+
 at_count : (P : ValueParser → Type 0) → Finds P (codes "N") (with_rest (class_count ∷ [])) → P (Unsigned 1 2000)
 at_count P (inl (e, h)) = absurd (false≢true e)
 at_count P (inr (inl (e, h))) = absurd (false≢true e)
@@ -309,8 +338,20 @@ options_are_taken app rest c m reads rules other is p = record {
     with_rules : (name text : Text) → Took (map rule_of (args_of c)) name text → Took (with_rest rest) name text
     with_rules name text t = subst (λ (rs : List Rule). Took rs name text) (ap (λ (a : App). a.top.rules) is ∙ rules) t
 
-pub are_taken : (c : Command) (m : ArgMatches) → app_of c ≡ run_command → IsParsedFrom c m → AreTaken (found_of m)
-are_taken c m is p = options_are_taken run_command [] c m run_is_read refl (record { seed = λ P none. none; budget = λ P none. none; size_cap = λ P none. none; proofs = λ P none. none }) is p
+pub run_is_taken : (c : Command) (m : ArgMatches) → app_of c ≡ run_command → IsParsedFrom c m → RunIsTaken (found_of m)
+run_is_taken c m is p = record {
+  options = options_are_taken run_command run_flags c m run_is_read refl
+      (record { seed = λ P. no_flag P (codes "seed") refl refl; budget = λ P. no_flag P (codes "budget") refl refl; size_cap = λ P. no_flag P (codes "size-cap") refl refl; proofs = λ P. no_flag P (codes "proofs") refl refl }) is p;
+  conflicts = λ text told.
+      let t = with_rules (codes "conflicts") text (took run_command c m p run_is_read is (codes "conflicts") text (differ (codes "conflicts") [] 99 0 refl refl (inr (omega arith))) (differ (codes "conflicts") (codes "help") 99 104 refl refl (inl (omega arith))) (differ (codes "conflicts") (codes "version") 99 118 refl refl (inl (omega arith))) told) in
+      truth_of text t.value t.how t.read (at_conflicts (λ q. (i : Bool) × Accepts i q t.value) t.passed) (at_conflicts (λ q. reading_of q ≡ t.how) t.reads);
+  lrat = λ text told.
+      let t = with_rules (codes "lrat") text (took run_command c m p run_is_read is (codes "lrat") text (differ (codes "lrat") [] 108 0 refl refl (inr (omega arith))) (differ (codes "lrat") (codes "help") 108 104 refl refl (inr (omega arith))) (differ (codes "lrat") (codes "version") 108 118 refl refl (inl (omega arith))) told) in
+      truth_of text t.value t.how t.read (at_lrat (λ q. (i : Bool) × Accepts i q t.value) t.passed) (at_lrat (λ q. reading_of q ≡ t.how) t.reads);
+}
+  where
+    with_rules : (name text : Text) → Took (map rule_of (args_of c)) name text → Took (with_rest run_flags) name text
+    with_rules name text t = subst (λ (rs : List Rule). Took rs name text) (ap (λ (a : App). a.top.rules) is) t
 
 pub load_is_taken : (c : Command) (m : ArgMatches) → app_of c ≡ load_command → IsParsedFrom c m → LoadIsTaken (found_of m)
 load_is_taken c m is p = record {
@@ -422,18 +463,18 @@ failed_words app words c e r read is err kinds other none =
       | inr never ↦ absurd never
     ]
 
-pub asked : (words : List Text) (c : Command) (m : ArgMatches) (r : Result ArgMatches Error) (opts : Options)
+pub asked : (words : List Text) (c : Command) (m : ArgMatches) (r : Result ArgMatches Error) (run : Run)
     → slice_get words 0 ≡ Some (codes "run") → app_of c ≡ run_command → r ≡ Ok m
     → (is_simple_and_free (app_of c) ≡ true → FailsBy (fault_of (app_of c) words) r) → IfOk r (HasMatchesOf (app_of c) words)
-    → opts ≡ options_of (rows_of (found_of m)) → IsCommand words opts
-asked words c m r opts first is ok kinds matches read =
+    → run ≡ run_of (rows_of (found_of m)) → IsCommand words run
+asked words c m r run first is ok kinds matches read =
     let h : (fault_of run_command words ≡ []) × (rows_of (found_of m) ≡ matches_of run_command words) = parsed_words run_command words c m r run_is_read is ok kinds matches in
-    record { named = first; taken = h.0; options = read ∙ ap options_of h.1 }
+    record { named = first; taken = h.0; options = read ∙ ap run_of h.1 }
 
 pub not_asked : (words : List Text) (c : Command) (e : Error) (r : Result ArgMatches Error) → app_of c ≡ run_command → r ≡ Err e
     → (is_simple_and_free (app_of c) ≡ true → FailsBy (fault_of (app_of c) words) r) → (kind_of e ≡ OutOfMemory → ⊥)
-    → (opts : Options) → IsCommand words opts → ⊥
-not_asked words c e r is err kinds other opts command = failed_words run_command words c e r run_is_read is err kinds other command.taken
+    → (run : Run) → IsCommand words run → ⊥
+not_asked words c e r is err kinds other run command = failed_words run_command words c e r run_is_read is err kinds other command.taken
 
 pub load_asked : (words : List Text) (c : Command) (m : ArgMatches) (r : Result ArgMatches Error) (count : ℕ) (opts : Options)
     → slice_get words 0 ≡ Some (codes "load") → app_of c ≡ load_command → r ≡ Ok m
@@ -501,17 +542,17 @@ load_or_seq e = differ (codes "load") (codes "seq") 108 115 refl refl (inl (omeg
 check_or_seq : codes "check" ≡ codes "seq" → ⊥
 check_or_seq e = differ (codes "check") (codes "seq") 99 115 refl refl (inl (omega arith)) e
 
-pub run_is_no_load : (words : List Text) (a : Options) (count : ℕ) (b : Options) → IsCommand words a → IsLoad words count b → ⊥
+pub run_is_no_load : (words : List Text) (a : Run) (count : ℕ) (b : Options) → IsCommand words a → IsLoad words count b → ⊥
 run_is_no_load words a count b run load = names_differ (codes "run") (codes "load") (slice_get words 0) run_or_load run.named load.named
 
-pub run_is_no_check : (words : List Text) (opts : Options) → IsCommand words opts → IsCheck words → ⊥
-run_is_no_check words opts run check = names_differ (codes "run") (codes "check") (slice_get words 0) run_or_check run.named check.named
+pub run_is_no_check : (words : List Text) (asked : Run) → IsCommand words asked → IsCheck words → ⊥
+run_is_no_check words asked run check = names_differ (codes "run") (codes "check") (slice_get words 0) run_or_check run.named check.named
 
 pub load_is_no_check : (words : List Text) (count : ℕ) (opts : Options) → IsLoad words count opts → IsCheck words → ⊥
 load_is_no_check words count opts load check = names_differ (codes "load") (codes "check") (slice_get words 0) load_or_check load.named check.named
 
-pub run_is_no_seq : (words : List Text) (opts : Options) (seed count : ℕ) → IsCommand words opts → IsSeq words seed count → ⊥
-run_is_no_seq words opts seed count run seq = names_differ (codes "run") (codes "seq") (slice_get words 0) run_or_seq run.named seq.named
+pub run_is_no_seq : (words : List Text) (asked : Run) (seed count : ℕ) → IsCommand words asked → IsSeq words seed count → ⊥
+run_is_no_seq words asked seed count run seq = names_differ (codes "run") (codes "seq") (slice_get words 0) run_or_seq run.named seq.named
 
 pub load_is_no_seq : (words : List Text) (n : ℕ) (opts : Options) (seed count : ℕ) → IsLoad words n opts → IsSeq words seed count → ⊥
 load_is_no_seq words n opts seed count load seq = names_differ (codes "load") (codes "seq") (slice_get words 0) load_or_seq load.named seq.named
@@ -519,7 +560,7 @@ load_is_no_seq words n opts seed count load seq = names_differ (codes "load") (c
 pub check_is_no_seq : (words : List Text) (seed count : ℕ) → IsCheck words → IsSeq words seed count → ⊥
 check_is_no_seq words seed count check seq = names_differ (codes "check") (codes "seq") (slice_get words 0) check_or_seq check.named seq.named
 
-pub nothing_for_run : (words : List Text) → slice_get words 0 ≡ Some (codes "run") → ((opts : Options) → IsCommand words opts → ⊥) → AskNothing words
+pub nothing_for_run : (words : List Text) → slice_get words 0 ≡ Some (codes "run") → ((run : Run) → IsCommand words run → ⊥) → AskNothing words
 nothing_for_run words first none = record {
   no_run = none;
   no_load = λ count opts load. names_differ (codes "run") (codes "load") (slice_get words 0) run_or_load first load.named;
@@ -529,7 +570,7 @@ nothing_for_run words first none = record {
 
 pub nothing_for_load : (words : List Text) → slice_get words 0 ≡ Some (codes "load") → ((count : ℕ) (opts : Options) → IsLoad words count opts → ⊥) → AskNothing words
 nothing_for_load words first none = record {
-  no_run = λ opts run. names_differ (codes "run") (codes "load") (slice_get words 0) run_or_load run.named first;
+  no_run = λ asked run. names_differ (codes "run") (codes "load") (slice_get words 0) run_or_load run.named first;
   no_load = none;
   no_check = λ check. names_differ (codes "load") (codes "check") (slice_get words 0) load_or_check first check.named;
   no_seq = λ seed count seq. names_differ (codes "load") (codes "seq") (slice_get words 0) load_or_seq first seq.named;
@@ -537,7 +578,7 @@ nothing_for_load words first none = record {
 
 pub nothing_for_check : (words : List Text) → slice_get words 0 ≡ Some (codes "check") → (IsCheck words → ⊥) → AskNothing words
 nothing_for_check words first none = record {
-  no_run = λ opts run. names_differ (codes "run") (codes "check") (slice_get words 0) run_or_check run.named first;
+  no_run = λ asked run. names_differ (codes "run") (codes "check") (slice_get words 0) run_or_check run.named first;
   no_load = λ count opts load. names_differ (codes "load") (codes "check") (slice_get words 0) load_or_check load.named first;
   no_check = none;
   no_seq = λ seed count seq. names_differ (codes "check") (codes "seq") (slice_get words 0) check_or_seq first seq.named;
@@ -545,7 +586,7 @@ nothing_for_check words first none = record {
 
 pub nothing_for_seq : (words : List Text) → slice_get words 0 ≡ Some (codes "seq") → ((seed count : ℕ) → IsSeq words seed count → ⊥) → AskNothing words
 nothing_for_seq words first none = record {
-  no_run = λ opts run. names_differ (codes "run") (codes "seq") (slice_get words 0) run_or_seq run.named first;
+  no_run = λ asked run. names_differ (codes "run") (codes "seq") (slice_get words 0) run_or_seq run.named first;
   no_load = λ count opts load. names_differ (codes "load") (codes "seq") (slice_get words 0) load_or_seq load.named first;
   no_check = λ check. names_differ (codes "check") (codes "seq") (slice_get words 0) check_or_seq check.named first;
   no_seq = none;
@@ -553,7 +594,7 @@ nothing_for_seq words first none = record {
 
 pub nothing_for_other : (words : List Text) → (slice_get words 0 ≡ Some (codes "run") → ⊥) → (slice_get words 0 ≡ Some (codes "load") → ⊥) → (slice_get words 0 ≡ Some (codes "check") → ⊥) → (slice_get words 0 ≡ Some (codes "seq") → ⊥) → AskNothing words
 nothing_for_other words no_run no_load no_check no_seq = record {
-  no_run = λ opts run. no_run run.named;
+  no_run = λ asked run. no_run run.named;
   no_load = λ count opts load. no_load load.named;
   no_check = λ check. no_check check.named;
   no_seq = λ seed count seq. no_seq seq.named;

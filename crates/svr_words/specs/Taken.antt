@@ -28,6 +28,12 @@ pub record AreTaken (f : Found) : Type 0 where
 abbrev pub AreInRange : Options → Type 0
 AreInRange opts = (1 ≤ opts.budget) × (1 ≤ opts.size_cap) × (opts.size_cap ≤ 2048)
 
+-- what was taken for a run
+pub record RunIsTaken (f : Found) : Type 0 where
+  pub options : AreTaken f
+  pub conflicts : IsTruth f (codes "conflicts")
+  pub lrat : IsTruth f (codes "lrat")
+
 -- what was taken for a load
 pub record LoadIsTaken (f : Found) : Type 0 where
   pub count : IsNumber f (codes "N") 1 2000
@@ -40,7 +46,7 @@ pub record SeqIsTaken (f : Found) : Type 0 where
 
 -- the words ask for this, and its numbers are in their ranges
 abbrev pub Asks : List (List ℕ) → Request → Type 0
-Asks words (request.Run opts) = IsCommand words opts × AreInRange opts
+Asks words (request.Run run) = IsCommand words run × AreInRange run.opts
 Asks words (request.Load load) = IsLoad words load.count load.opts × (load.count ≤ 2000) × AreInRange load.opts
 Asks words request.Check = IsCheck words
 Asks words (request.Seq lines) = IsSeq words lines.seed lines.count

@@ -9,6 +9,7 @@ use Rattle.clap.specs.declared.builder.action.ArgAction.TheVariants.{Set, SetTru
 use Rattle.clap.specs.declared.builder.value_parser.ValueParser.{ValueParser}
 use Rattle.clap.specs.declared.builder.value_parser.ValueParser.TheVariants.{Unsigned, Bool as Truth}
 use Rattle.svr_phase.specs.declared.options.Options.{Options}
+use Rattle.svr_words.specs.declared.request.Run.{Run}
 
 -- an option that takes one value
 abbrev pub option : Text → ValueParser → Rule
@@ -29,8 +30,9 @@ with_options name =
     (option (codes "size-cap") (Unsigned 1 2048)))
     (flag (codes "proofs"))
 
+-- a run tells more beside its lines by two flags that it alone has
 abbrev pub run_command : App
-run_command = with_options (codes "run")
+run_command = with_rule (with_rule (with_options (codes "run")) (flag (codes "conflicts"))) (flag (codes "lrat"))
 
 -- a check has no options
 abbrev pub check_command : App
@@ -68,11 +70,19 @@ options_of rows = record {
   proofs = is_set (one_of (codes "proofs") rows);
 }
 
--- The words ask for a run with these options: the first names the command, and `clap` takes those behind it for its options.
-pub record IsCommand (words : List Text) (opts : Options) : Type 0 where
+-- a run with these options, and with the flags that were used
+abbrev pub run_of : List Row → Run
+run_of rows = record {
+  opts = options_of rows;
+  conflicts = is_set (one_of (codes "conflicts") rows);
+  lrat = is_set (one_of (codes "lrat") rows);
+}
+
+-- The words ask for this run: the first names the command, and `clap` takes those behind it for its options and flags.
+pub record IsCommand (words : List Text) (run : Run) : Type 0 where
   pub named : slice_get words 0 ≡ Some (codes "run")
   pub taken : fault_of run_command words ≡ []
-  pub options : opts ≡ options_of (matches_of run_command words)
+  pub options : run ≡ run_of (matches_of run_command words)
 
 -- The words ask for a load of so many classes with these options.
 pub record IsLoad (words : List Text) (count : ℕ) (opts : Options) : Type 0 where
@@ -95,11 +105,11 @@ pub record IsSeq (words : List Text) (seed count : ℕ) : Type 0 where
 
 -- the words ask for none of these
 pub record AskNothing (words : List Text) : Type 0 where
-  pub no_run : (opts : Options) → IsCommand words opts → ⊥
+  pub no_run : (run : Run) → IsCommand words run → ⊥
   pub no_load : (count : ℕ) (opts : Options) → IsLoad words count opts → ⊥
   pub no_check : IsCheck words → ⊥
   pub no_seq : (seed count : ℕ) → IsSeq words seed count → ⊥
 
 -- what is printed for such words
 abbrev pub usage_text : List ℕ
-usage_text = codes "usage: svrand run [--seed N] [--budget N] [--size-cap N] [--proofs]\n       svrand load N [--seed N] [--budget N] [--size-cap N] [--proofs]\n       svrand check\n       svrand seq [--seed N] [--count N]\n"
+usage_text = codes "usage: svrand run [--seed N] [--budget N] [--size-cap N] [--proofs] [--conflicts] [--lrat]\n       svrand load N [--seed N] [--budget N] [--size-cap N] [--proofs]\n       svrand check\n       svrand seq [--seed N] [--count N]\n"

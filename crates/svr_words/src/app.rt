@@ -47,11 +47,13 @@ fn with_options<'a>(alloc: Global, name: &'a str) -> Result<Command<'a>, AllocEr
         .arg(flag(alloc, "proofs"))
 }
 
-/// `run` with its options.
+/// `run` with its options, and with the two flags that it alone has.
 pub fn run_command<'a>(alloc: Global) -> Result<Command<'a>, AllocError>
     ensures { IfOk result (λ c. app_of c ≡ spec.run_command) }
 {
-    with_options(alloc, "run")
+    with_options(alloc, "run")?
+        .arg(flag(alloc, "conflicts"))?
+        .arg(flag(alloc, "lrat"))
 }
 
 /// How many classes the script of a load has.

@@ -1,25 +1,25 @@
 // What words ask for.
 ghost use Rattle.std.specs.Prelude.{◌≡◌, ◌≤◌, ℕ, List, Some, true, false, codes, map, slice_get, IfOk, IfSome, IfNone, string_bytes};
 ghost use Rattle.svr_phase.specs.declared.options.Options.{Options};
+ghost use Rattle.svr_words.specs.declared.request.Run.{Run};
 ghost use Rattle.svr_words.specs.Words.{IsCommand, IsLoad, IsCheck, IsSeq, AskNothing};
 ghost use Rattle.svr_words.specs.Taken.{AreInRange, Asks};
 
 use crate::app::{check_command, load_command, run_command, seq_command};
-use crate::request::{Lines, Load, Request};
-use crate::take::{load_of, options, seq_of};
+use crate::request::{Lines, Load, Request, Run};
+use crate::take::{load_of, run_of, seq_of};
 use clap::error::ErrorKind;
 use std::alloc::{AllocError, Global};
-use svr_phase::Options;
 
-/// The options in words of which the first names the command, as `clap` takes them.
-fn taken(alloc: Global, words: &[String]) -> Result<Option<Options>, AllocError>
+/// The run in words of which the first names the command, as `clap` takes them.
+fn taken(alloc: Global, words: &[String]) -> Result<Option<Run>, AllocError>
     requires { slice_get (map (λ w. string_bytes w) words.now) 0 ≡ Some (codes "run") }
-    ensures some { IfOk result (λ r. IfSome r (λ opts. IsCommand (map (λ w. string_bytes w) words.now) opts × AreInRange opts)) }
-    ensures none { IfOk result (λ r. IfNone r ((opts : Options) → IsCommand (map (λ w. string_bytes w) words.now) opts → ⊥)) }
+    ensures some { IfOk result (λ r. IfSome r (λ run. IsCommand (map (λ w. string_bytes w) words.now) run × AreInRange run.opts)) }
+    ensures none { IfOk result (λ r. IfNone r ((run : Run) → IsCommand (map (λ w. string_bytes w) words.now) run → ⊥)) }
 {
     let command = run_command(alloc)?;
     match command.try_get_matches_from(words) {
-        Ok(matches) => Ok(Some(options(&matches))),
+        Ok(matches) => Ok(Some(run_of(&matches))),
         Err(error) => {
             if error.kind() == ErrorKind::OutOfMemory {
                 Err(AllocError)
@@ -56,7 +56,7 @@ fn run_asked(alloc: Global, words: &[String]) -> Result<Option<Request>, AllocEr
     ensures none { IfOk result (λ r. IfNone r (AskNothing (map (λ w. string_bytes w) words.now))) }
 {
     match taken(alloc, words)? {
-        Some(opts) => Ok(Some(Request::Run(opts))),
+        Some(run) => Ok(Some(Request::Run(run))),
         None => Ok(None),
     }
 }

@@ -11,4 +11,4 @@ mod take;
 
 pub use ask::command;
 pub use help::USAGE;
-pub use request::{Lines, Load, Request};
+pub use request::{Lines, Load, Request, Run};

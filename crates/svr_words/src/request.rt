@@ -2,6 +2,14 @@
 
 use svr_phase::Options;
 
+/// A run: its options, and what it tells beside its lines: which constraints contradict each other, and each derivation as clauses with hints (LRAT).
+#[derive(Clone, Copy)]
+pub struct Run {
+    pub opts: Options,
+    pub conflicts: bool,
+    pub lrat: bool,
+}
+
 /// A load: so many classes, from 1 to 2,000, and the options of the run.
 #[derive(Clone, Copy)]
 pub struct Load {
@@ -20,7 +28,7 @@ pub struct Lines {
 #[derive(Clone, Copy)]
 pub enum Request {
     /// A run of the script that is read.
-    Run(Options),
+    Run(Run),
     /// A run of the script of a load.
     Load(Load),
     /// A check of the derivation that is read.

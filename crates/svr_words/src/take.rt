@@ -2,10 +2,10 @@
 ghost use Rattle.std.specs.Prelude.{◌≡◌, ◌≤◌, ◌<◌, ◌^◌, ℕ, codes};
 ghost use Rattle.clap.specs.Matches.{found_of};
 ghost use Rattle.clap.specs.Walk.{one_of, rows_of};
-ghost use Rattle.svr_words.specs.Words.{number_or, is_set, options_of};
-ghost use Rattle.svr_words.specs.Taken.{IsNumber, IsTruth, AreTaken, AreInRange, LoadIsTaken, SeqIsTaken};
+ghost use Rattle.svr_words.specs.Words.{number_or, is_set, options_of, run_of};
+ghost use Rattle.svr_words.specs.Taken.{IsNumber, IsTruth, AreTaken, AreInRange, RunIsTaken, LoadIsTaken, SeqIsTaken};
 
-use crate::request::{Lines, Load};
+use crate::request::{Lines, Load, Run};
 use clap::ArgMatches;
 use svr_phase::Options;
 
@@ -39,6 +39,22 @@ pub fn options(matches: &ArgMatches<'_>) -> Options
         budget,
         size_cap: size_cap as u32,
         proofs: is_set(matches, "proofs"),
+    }
+}
+
+/// The options of a run, and the flags that were used.
+pub fn run_of(matches: &ArgMatches<'_>) -> Run
+    requires { RunIsTaken (found_of matches.now) }
+    ensures run { result ≡ run_of (rows_of (found_of matches.now)) }
+    ensures ranges { AreInRange result.opts }
+{
+    let opts = options(matches);
+    let conflicts = is_set(matches, "conflicts");
+    let lrat = is_set(matches, "lrat");
+    Run {
+        opts,
+        conflicts,
+        lrat,
     }
 }
 

@@ -11,7 +11,7 @@ returns-in-Ok-Accepted g c =
 pub returns-in-Ok-Refused : goal.returns-in-Ok-Refused
 returns-in-Ok-Refused g c =
     let why : IsRefused c.args.text.now c.in-Ok-Refused.line.items = rw c.in-Ok-Refused.field-0-is at c.in-Ok-Refused.ensures in
-    refusal_answers c.args.opts c.args.text.now c.in-Ok-Refused.line.items _ _ _ _ _ _ _ c.requires.small why (rw c.deref.ensures.value at c.finish.ensures.ends) c.finish.ensures.faults
+    refusal_answers c.args.asked c.args.text.now c.in-Ok-Refused.line.items _ _ _ _ _ _ _ c.requires.small why (rw c.deref.ensures.value at c.finish.ensures.ends) c.finish.ensures.faults
 
 pub returns-in-Err : goal.returns-in-Err
-returns-in-Err g c = nothing_answers c.args.opts c.args.text.now _
+returns-in-Err g c = nothing_answers c.args.asked c.args.text.now _

@@ -10,7 +10,7 @@ use Rattle.svr_answer.proofs.script.run_source.Goals as goal
 pub returns-in-Err-TooLong-clause-writing : goal.returns-in-Err-TooLong-clause-writing
 returns-in-Err-TooLong-clause-writing g c =
     let taken : Takes (g.S.Source.left c.args.src.now) (g.S.Source.left c.read_text.new.src) (TEXT_LIMIT + 1) = c.in-Err-TooLong.ensures.too_long (ap (λ e. Err e) c.in-Err-TooLong.field-0-is) in
-    long_told (g.S.Source.left c.args.src.now) (g.S.Source.left c.read_text.new.src) c.args.opts c.refuse.result _ _ _ _ _ _ _ taken c.refuse.ensures.ends
+    long_told (g.S.Source.left c.args.src.now) (g.S.Source.left c.read_text.new.src) c.args.asked c.refuse.result _ _ _ _ _ _ _ taken c.refuse.ensures.ends
 
 pub returns-in-Err-TooLong-clause-extent : goal.returns-in-Err-TooLong-clause-extent
 returns-in-Err-TooLong-clause-extent g c =
@@ -32,7 +32,7 @@ returns-in-Err-TooLong-clause-read g c =
 
 pub returns-in-Ok-clause-writing : goal.returns-in-Ok-clause-writing
 returns-in-Ok-clause-writing g c =
-    answer_told (g.S.Source.left c.args.src.now) (g.S.Source.left c.read_text.new.src) c.args.opts c.in-Ok.text.items _ c.answer.result _ _ c.in-Ok.ensures.text c.in-Ok.ensures.at_end c.deref.ensures.value c.answer.ensures
+    answer_told (g.S.Source.left c.args.src.now) (g.S.Source.left c.read_text.new.src) c.args.asked c.in-Ok.text.items _ c.answer.result _ _ c.in-Ok.ensures.text c.in-Ok.ensures.at_end c.deref.ensures.value c.answer.ensures
 
 pub returns-in-Ok-clause-extent : goal.returns-in-Ok-clause-extent
 returns-in-Ok-clause-extent g c =
@@ -40,13 +40,13 @@ returns-in-Ok-clause-extent g c =
     let all : text ≡ c.in-Ok.text.items = read_all _ _ text c.in-Ok.text.items told c.in-Ok.ensures.text c.in-Ok.ensures.at_end in
     let fits : length c.in-Ok.text.items ≤ TEXT_LIMIT = search rules in
     let small : length text ≤ TEXT_LIMIT = rw all fits in
-    answer_read_text c.args.opts _ c.answer.result _ _ text _ _ c.answer.ensures small c.in-Ok.ensures.at_end)
+    answer_read_text c.args.asked _ c.answer.result _ _ text _ _ c.answer.ensures small c.in-Ok.ensures.at_end)
 
 pub returns-in-Ok-clause-command : goal.returns-in-Ok-clause-command
-returns-in-Ok-clause-command g c = λ e. absurd (answer_no_usage c.args.opts _ c.answer.result _ _ c.answer.ensures e)
+returns-in-Ok-clause-command g c = λ e. absurd (answer_no_usage c.args.asked _ c.answer.result _ _ c.answer.ensures e)
 
 pub returns-in-Ok-clause-read : goal.returns-in-Ok-clause-read
-returns-in-Ok-clause-read g c = answer_read c.args.opts _ c.answer.result _ _ _ _ c.answer.ensures c.in-Ok.ensures.at_end
+returns-in-Ok-clause-read g c = answer_read c.args.asked _ c.answer.result _ _ _ _ c.answer.ensures c.in-Ok.ensures.at_end
 
 pub returns-in-Ok-clause-read_fault : goal.returns-in-Ok-clause-read_fault
 returns-in-Ok-clause-read_fault g c = λ e. absurd (c.answer.ensures.was_read e)

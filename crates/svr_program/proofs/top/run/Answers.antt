@@ -42,36 +42,36 @@ returns-in-Ok-None-clause-unread g c = λ none. Keeps-refl (g.S.Source.left c.ar
 
 pub run_source-requires : goal.run_source-requires
 run_source-requires g c =
-    let asked : Asks (map (λ w. string_bytes w) c.args.words.now) (Run c.in-Run.opts) = rw (c.in-Ok-Some.field-0-is, c.in-Run.is) at c.in-Ok-Some.ensures.some in
+    let asked : Asks (map (λ w. string_bytes w) c.args.words.now) (Run c.in-Run.asked) = rw (c.in-Ok-Some.field-0-is, c.in-Run.is) at c.in-Ok-Some.ensures.some in
     asked.1
 
 pub returns-in-Run-clause-headline : goal.returns-in-Run-clause-headline
 returns-in-Run-clause-headline g c =
-    let asked : Asks (map (λ w. string_bytes w) c.args.words.now) (Run c.in-Run.opts) = rw (c.in-Ok-Some.field-0-is, c.in-Run.is) at c.in-Ok-Some.ensures.some in
-    source_is_said (g.S.Source.left c.args.src.now) (map (λ w. string_bytes w) c.args.words.now) c.in-Run.opts c.run_source.result _ _ asked.0 c.run_source.ensures.writing
+    let asked : Asks (map (λ w. string_bytes w) c.args.words.now) (Run c.in-Run.asked) = rw (c.in-Ok-Some.field-0-is, c.in-Run.is) at c.in-Ok-Some.ensures.some in
+    source_is_said (g.S.Source.left c.args.src.now) (map (λ w. string_bytes w) c.args.words.now) c.in-Run.asked c.run_source.result _ _ asked.0 c.run_source.ensures.writing
 
 pub returns-in-Run-clause-extent : goal.returns-in-Run-clause-extent
 returns-in-Run-clause-extent g c =
-    let asked : Asks (map (λ w. string_bytes w) c.args.words.now) (Run c.in-Run.opts) = rw (c.in-Ok-Some.field-0-is, c.in-Run.is) at c.in-Ok-Some.ensures.some in
-    λ limit reads. extent_for TEXT_LIMIT limit _ c.run_source.result _ _ (run_reads (map (λ w. string_bytes w) c.args.words.now) c.in-Run.opts limit asked.0 reads) c.run_source.ensures.extent
+    let asked : Asks (map (λ w. string_bytes w) c.args.words.now) (Run c.in-Run.asked) = rw (c.in-Ok-Some.field-0-is, c.in-Run.is) at c.in-Ok-Some.ensures.some in
+    λ limit reads. extent_for TEXT_LIMIT limit _ c.run_source.result _ _ (run_reads (map (λ w. string_bytes w) c.args.words.now) c.in-Run.asked limit asked.0 reads) c.run_source.ensures.extent
 
 pub returns-in-Run-clause-usage : goal.returns-in-Run-clause-usage
 returns-in-Run-clause-usage g c = λ e. absurd (c.run_source.ensures.command e)
 
 pub returns-in-Run-clause-no_command : goal.returns-in-Run-clause-no_command
 returns-in-Run-clause-no_command g c =
-    let asked : Asks (map (λ w. string_bytes w) c.args.words.now) (Run c.in-Run.opts) = rw (c.in-Ok-Some.field-0-is, c.in-Run.is) at c.in-Ok-Some.ensures.some in
-    λ none. absurd (none.no_run c.in-Run.opts asked.0)
+    let asked : Asks (map (λ w. string_bytes w) c.args.words.now) (Run c.in-Run.asked) = rw (c.in-Ok-Some.field-0-is, c.in-Run.is) at c.in-Ok-Some.ensures.some in
+    λ none. absurd (none.no_run c.in-Run.asked asked.0)
 
 pub returns-in-Run-clause-read : goal.returns-in-Run-clause-read
 returns-in-Run-clause-read g c =
-    let asked : Asks (map (λ w. string_bytes w) c.args.words.now) (Run c.in-Run.opts) = rw (c.in-Ok-Some.field-0-is, c.in-Run.is) at c.in-Ok-Some.ensures.some in
-    λ limit reads. read_for TEXT_LIMIT limit c.run_source.result _ _ (run_reads (map (λ w. string_bytes w) c.args.words.now) c.in-Run.opts limit asked.0 reads) c.run_source.ensures.read
+    let asked : Asks (map (λ w. string_bytes w) c.args.words.now) (Run c.in-Run.asked) = rw (c.in-Ok-Some.field-0-is, c.in-Run.is) at c.in-Ok-Some.ensures.some in
+    λ limit reads. read_for TEXT_LIMIT limit c.run_source.result _ _ (run_reads (map (λ w. string_bytes w) c.args.words.now) c.in-Run.asked limit asked.0 reads) c.run_source.ensures.read
 
 pub returns-in-Run-clause-unread : goal.returns-in-Run-clause-unread
 returns-in-Run-clause-unread g c =
-    let asked : Asks (map (λ w. string_bytes w) c.args.words.now) (Run c.in-Run.opts) = rw (c.in-Ok-Some.field-0-is, c.in-Run.is) at c.in-Ok-Some.ensures.some in
-    λ none. absurd (none TEXT_LIMIT (a_script c.in-Run.opts asked.0 refl))
+    let asked : Asks (map (λ w. string_bytes w) c.args.words.now) (Run c.in-Run.asked) = rw (c.in-Ok-Some.field-0-is, c.in-Run.is) at c.in-Ok-Some.ensures.some in
+    λ none. absurd (none TEXT_LIMIT (a_script c.in-Run.asked asked.0 refl))
 
 -- ---- a load
 

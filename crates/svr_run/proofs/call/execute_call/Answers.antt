@@ -3,7 +3,6 @@ use Rattle.std.proofs.lemmas.Result.{on_ok_weaker, IfErr-weaker}
 use Rattle.svr_typed.specs.ClassTerm.{FlatTerm, flat_term}
 use Rattle.svr_typed.specs.StmtTerm.{call, call_term, design_term}
 use Rattle.svr_world.specs.World.{object_of}
-use Rattle.svr_flat.specs.Flat.{flat_class_of}
 use Rattle.svr_frame.specs.Making.{frame_of}
 use Rattle.svr_frame_of.specs.Callable.{IsCallable, state_of}
 use Rattle.svr_script.specs.Statement.{flat_of_var}
@@ -18,49 +17,51 @@ pub make_frame-requires : goal.make_frame-requires
 make_frame-requires g c =
     let d = design_term c.args.script.now.design.now in
     let opts = c.args.script.now.opts in
+    let extra = c.args.script.now.extra in
     let ct = call_term c.args.call.now in
     let p = c.args.progress.now in
     let s = sinks (g.K.Sink.written c.args.out.now) (g.K.Sink.faults c.args.out.now) (g.J.Sink.written c.args.journal.now) (g.J.Sink.faults c.args.journal.now) in
-    let next : IsNext d opts (call ct) p s = next_of d opts (call ct) (call ct ∷ []) p s refl c.requires.going c.requires.before in
-    let flat : flat_term c.get-flat.result.now ≡ flat_of_var d ct.object = c.get-flat.ensures ∙ ap (λ k. flat_class_of d.classes k) c.class_of_var-class.ensures in
+    let next : IsNext d opts extra (call ct) p s = next_of d opts extra (call ct) (call ct ∷ []) p s refl c.requires.going c.requires.before in
+    let flat : flat_term c.of_var-flat.result.now ≡ flat_of_var d ct.object = c.of_var-flat.ensures in
     record {
-      callable = subst (λ (x : FlatTerm). IsCallable x d.enums (object_of p.world ct.object) p.world.script ct) (sym flat) (can_execute d opts c.requires.can_run (call ct) p s c.requires.going next).1;
+      callable = subst (λ (x : FlatTerm). IsCallable x d.enums (object_of p.world ct.object) p.world.script ct) (sym flat) (can_execute d opts extra c.requires.can_run (call ct) p s c.requires.going next).1;
     }
 
 pub answer-requires-clause-next : goal.answer-requires-clause-next
 answer-requires-clause-next g c =
     let d = design_term c.args.script.now.design.now in
     let ct = call_term c.args.call.now in
-    next_of d c.args.script.now.opts (call ct) (call ct ∷ []) c.args.progress.now _ refl c.requires.going c.requires.before
+    next_of d c.args.script.now.opts c.args.script.now.extra (call ct) (call ct ∷ []) c.args.progress.now _ refl c.requires.going c.requires.before
 
 pub answer-requires-clause-framed : goal.answer-requires-clause-framed
 answer-requires-clause-framed g c =
     let d = design_term c.args.script.now.design.now in
     let ct = call_term c.args.call.now in
     let p = c.args.progress.now in
-    let flat : flat_term c.get-flat.result.now ≡ flat_of_var d ct.object = c.get-flat.ensures ∙ ap (λ k. flat_class_of d.classes k) c.class_of_var-class.ensures in
+    let flat : flat_term c.of_var-flat.result.now ≡ flat_of_var d ct.object = c.of_var-flat.ensures in
     c.in_ok-frame.ensures.frame ∙ ap (λ (x : FlatTerm). frame_of x d.enums (state_of p.world ct.object) (object_of p.world ct.object).rand_modes (object_of p.world ct.object).block_modes ct) flat
 
 pub returns-in_err-frame-clause-breaks : goal.returns-in_err-frame-clause-breaks
 returns-in_err-frame-clause-breaks g c =
     let d = design_term c.args.script.now.design.now in
     let opts = c.args.script.now.opts in
+    let extra = c.args.script.now.extra in
     let x = call (call_term c.args.call.now) in
     let p = c.args.progress.now in
     let s = sinks (g.K.Sink.written c.args.out.now) (g.K.Sink.faults c.args.out.now) (g.J.Sink.written c.args.journal.now) (g.J.Sink.faults c.args.journal.now) in
     failed_as c.from_residual.result _ _ c.from_residual.ensures.1
-    (λ why e. breaks_as d opts (x ∷ []) p s s why NoMemory e (breaks_by d opts x (x ∷ []) p s s NoMemory refl c.requires.going (halts_here d opts x p s)))
+    (λ why e. breaks_as d opts extra (x ∷ []) p s s why NoMemory e (breaks_by d opts extra x (x ∷ []) p s s NoMemory refl c.requires.going (halts_here d opts extra x p s)))
 
 pub returns-clause-goes : goal.returns-clause-goes
 returns-clause-goes g c =
     let x = call (call_term c.args.call.now) in
     on_ok_weaker c.answer.result
-    (goes_by (design_term c.args.script.now.design.now) c.args.script.now.opts x (x ∷ []) c.args.progress.now c.answer.new.progress _ _ refl c.requires.going)
+    (goes_by (design_term c.args.script.now.design.now) c.args.script.now.opts c.args.script.now.extra x (x ∷ []) c.args.progress.now c.answer.new.progress _ _ refl c.requires.going)
     c.answer.ensures.steps
 
 pub returns-clause-breaks : goal.returns-clause-breaks
 returns-clause-breaks g c =
     let x = call (call_term c.args.call.now) in
     IfErr-weaker c.answer.result _ _
-    (λ why halt. breaks_by (design_term c.args.script.now.design.now) c.args.script.now.opts x (x ∷ []) c.args.progress.now _ _ why refl c.requires.going halt)
+    (λ why halt. breaks_by (design_term c.args.script.now.design.now) c.args.script.now.opts c.args.script.now.extra x (x ∷ []) c.args.progress.now _ _ why refl c.requires.going halt)
     c.answer.ensures.halts

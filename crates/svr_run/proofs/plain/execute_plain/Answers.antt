@@ -17,39 +17,43 @@ pub execute-requires-clause-whole : goal.execute-requires-clause-whole
 execute-requires-clause-whole c =
     let d = design_term c.args.script.now.design.now in
     let opts = c.args.script.now.opts in
+    let extra = c.args.script.now.extra in
     let x = stmt_term c.args.stmt.now in
     let p = c.args.progress.now in
     let now = c.requires.before.0 in
-    is_whole d opts c.requires.can_run x p now (next_of d opts x (in_order x) p now (plain_order x c.requires.plain) c.requires.going c.requires.before.1)
+    is_whole d opts extra c.requires.can_run x p now (next_of d opts extra x (in_order x) p now (plain_order x c.requires.plain) c.requires.going c.requires.before.1)
 
 pub execute-requires-clause-stands : goal.execute-requires-clause-stands
 execute-requires-clause-stands c =
     let d = design_term c.args.script.now.design.now in
     let opts = c.args.script.now.opts in
+    let extra = c.args.script.now.extra in
     let x = stmt_term c.args.stmt.now in
     let p = c.args.progress.now in
     let now = c.requires.before.0 in
     plain_stands d p.world x c.requires.plain
-    (can_execute d opts c.requires.can_run x p now c.requires.going (next_of d opts x (in_order x) p now (plain_order x c.requires.plain) c.requires.going c.requires.before.1))
+    (can_execute d opts extra c.requires.can_run x p now c.requires.going (next_of d opts extra x (in_order x) p now (plain_order x c.requires.plain) c.requires.going c.requires.before.1))
 
 pub returns-clause-goes : goal.returns-clause-goes
 returns-clause-goes c =
     let d = design_term c.args.script.now.design.now in
     let opts = c.args.script.now.opts in
+    let extra = c.args.script.now.extra in
     let x = stmt_term c.args.stmt.now in
     let p = c.args.progress.now in
     let does : Executes d opts x (state_of p) [] (record (state_of p) { world = c.execute.new.world }) =
     subst (λ (w : WorldTerm). Executes d opts x (state_of p) [] (record (state_of p) { world = w })) (sym c.in_ok-execute.ensures.effect) (plain_executes d opts x (state_of p) c.requires.plain) in
-    λ now. goes_by d opts x (in_order x) p _ now now (plain_order x c.requires.plain) c.requires.going
-    (one_step d opts x [] p (record p { world = c.execute.new.world }) now now c.requires.going does
+    λ now. goes_by d opts extra x (in_order x) p _ now now (plain_order x c.requires.plain) c.requires.going
+    (one_step d opts extra x [] p (record p { world = c.execute.new.world }) now now c.requires.going does
     (λ fs h. subst (λ (es : List Event). HasCounts p.counts es) (sym (append-nil fs)) h)
-    (tells_nothing (printing_of opts) now))
+    (tells_nothing (printing_of opts extra) now) tt)
 
 pub returns-in_err-execute-clause-breaks : goal.returns-in_err-execute-clause-breaks
 returns-in_err-execute-clause-breaks c =
     let d = design_term c.args.script.now.design.now in
     let opts = c.args.script.now.opts in
+    let extra = c.args.script.now.extra in
     let x = stmt_term c.args.stmt.now in
     let p = c.args.progress.now in
     failed_as c.from_residual.result _ _ c.from_residual.ensures.1
-    (λ why e. λ now. subst (λ (w : Stop). Breaks d opts (in_order x) p now w now) (sym e) (breaks_by d opts x (in_order x) p now now NoMemory (plain_order x c.requires.plain) c.requires.going (halts_here d opts x p now)))
+    (λ why e. λ now. subst (λ (w : Stop). Breaks d opts extra (in_order x) p now w now) (sym e) (breaks_by d opts extra x (in_order x) p now now NoMemory (plain_order x c.requires.plain) c.requires.going (halts_here d opts extra x p now)))

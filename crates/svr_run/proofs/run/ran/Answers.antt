@@ -6,4 +6,4 @@ use Rattle.svr_run.proofs.run.ran.Goals as goal
 pub returns-in_err-classes-clause-stops : goal.returns-in_err-classes-clause-stops
 returns-in_err-classes-clause-stops g c =
     failed_as c.from_residual.result _ _ c.from_residual.ensures.1
-    (λ why e. no_run (design_term c.args.design.now) c.args.opts _ why e)
+    (λ why e. no_run (design_term c.args.design.now) c.args.opts c.args.extra _ why e)

@@ -2,10 +2,10 @@ use Rattle.svr_stream.proofs.Putting.{puts_whole, all_written, front_written, ca
 use Rattle.svr_run.proofs.tell.note.Goals as goal
 
 pub returns-clause-whole : goal.returns-clause-whole
-returns-clause-whole g c = λ class. all_written c.finish.result _ _ _ _ _ (puts_whole c.finish.result c.new-text.ensures c.put_logs.ensures c.finish.ensures)
+returns-clause-whole g c = λ class. all_written c.finish.result _ _ _ _ _ (puts_whole c.finish.result c.new-text.ensures (c.put_notes.ensures class) c.finish.ensures)
 
 pub returns-clause-front : goal.returns-clause-front
-returns-clause-front g c = λ class. front_written c.finish.result _ _ _ _ _ (puts_whole c.finish.result c.new-text.ensures c.put_logs.ensures c.finish.ensures)
+returns-clause-front g c = λ class. front_written c.finish.result _ _ _ _ _ (puts_whole c.finish.result c.new-text.ensures (c.put_notes.ensures class) c.finish.ensures)
 
 pub returns-clause-cause : goal.returns-clause-cause
-returns-clause-cause g c = cause_of c.finish.result _ _ _ _ _ (puts_whole c.finish.result c.new-text.ensures c.put_logs.ensures c.finish.ensures)
+returns-clause-cause g c = cause_of c.finish.result _ _ _ _ _ (puts_whole c.finish.result c.new-text.ensures (c.put_notes.ensures 0) c.finish.ensures)

@@ -17,21 +17,23 @@ pub walk_one-returns-in-Call-clause-goes : goal.walk_one-returns-in-Call-clause-
 walk_one-returns-in-Call-clause-goes g t c =
     let d = design_term c.args.script.now.design.now in
     let opts = c.args.script.now.opts in
+    let extra = c.args.script.now.extra in
     let p = c.args.progress.now in
     let x = call (call_term c.in-Call.call) in
     let xs = in_order (stmt_term c.args.stmt.now) in
     let same : xs ≡ x ∷ [] = ap (λ (y : TStmt). in_order (stmt_term y)) c.in-Call.is ∙ call_order c.in-Call.call in
-    on_ok_weaker c.execute_call.result (goes_row d opts (x ∷ []) xs p c.execute_call.new.progress _ _ (sym same)) c.execute_call.ensures.goes
+    on_ok_weaker c.execute_call.result (goes_row d opts extra (x ∷ []) xs p c.execute_call.new.progress _ _ (sym same)) c.execute_call.ensures.goes
 
 pub walk_one-returns-in-Call-clause-breaks : goal.walk_one-returns-in-Call-clause-breaks
 walk_one-returns-in-Call-clause-breaks g t c =
     let d = design_term c.args.script.now.design.now in
     let opts = c.args.script.now.opts in
+    let extra = c.args.script.now.extra in
     let p = c.args.progress.now in
     let x = call (call_term c.in-Call.call) in
     let xs = in_order (stmt_term c.args.stmt.now) in
     let same : xs ≡ x ∷ [] = ap (λ (y : TStmt). in_order (stmt_term y)) c.in-Call.is ∙ call_order c.in-Call.call in
-    IfErr-weaker c.execute_call.result _ _ (λ why halt. breaks_row d opts (x ∷ []) xs p _ _ why (sym same) halt) c.execute_call.ensures.breaks
+    IfErr-weaker c.execute_call.result _ _ (λ why halt. breaks_row d opts extra (x ∷ []) xs p _ _ why (sym same) halt) c.execute_call.ensures.breaks
 
 -- ---- `repeat`
 
@@ -39,6 +41,7 @@ pub walk_one-loop-turn-init : goal.walk_one-loop-turn-init
 walk_one-loop-turn-init g t c =
     let d = design_term c.args.script.now.design.now in
     let opts = c.args.script.now.opts in
+    let extra = c.args.script.now.extra in
     let xs = in_order (stmt_term c.in-Repeat.body) in
     let n = c.in-Repeat.count in
     let p = c.args.progress.now in
@@ -46,15 +49,16 @@ walk_one-loop-turn-init g t c =
     let here : in_order (stmt_term c.args.stmt.now) ≡ times n xs = ap (λ (x : TStmt). in_order (stmt_term x)) c.in-Repeat.is ∙ repeat_order n c.in-Repeat.body in
     let turns : times n xs ≡ times (n - 0) xs = all_turns n xs in
     record {
-      before = before_row d opts (in_order (stmt_term c.args.stmt.now)) (times (n - 0) xs) p s (here ∙ turns) c.requires.before;
-      goes = λ q after way. goes_row d opts (times (n - 0) xs) (times n xs) p q s after (sym turns) way;
-      breaks = λ why after halt. breaks_row d opts (times (n - 0) xs) (times n xs) p s after why (sym turns) halt;
+      before = before_row d opts extra (in_order (stmt_term c.args.stmt.now)) (times (n - 0) xs) p s (here ∙ turns) c.requires.before;
+      goes = λ q after way. goes_row d opts extra (times (n - 0) xs) (times n xs) p q s after (sym turns) way;
+      breaks = λ why after halt. breaks_row d opts extra (times (n - 0) xs) (times n xs) p s after why (sym turns) halt;
     }
 
 pub walk_one-walk_one-requires : goal.walk_one-walk_one-requires
 walk_one-walk_one-requires g t c =
     let d = design_term c.args.script.now.design.now in
     let opts = c.args.script.now.opts in
+    let extra = c.args.script.now.extra in
     let xs = in_order (stmt_term c.in-Repeat.body) in
     let n = c.in-Repeat.count in
     let i = c.loop-turn._turn in
@@ -63,15 +67,16 @@ walk_one-walk_one-requires g t c =
     let ys = times (n - (i + 1)) xs in
     let split : times (n - i) xs ≡ xs ++ ys = next_turn n i xs c.loop-turn-test.true in
     let body : in_order (stmt_term c.get.result.now) ≡ xs = ap (λ (x : TStmt). in_order (stmt_term x)) c.get.ensures in
-    let first : IsBefore d opts (in_order (stmt_term c.get.result.now)) p s =
-    before_row d opts xs (in_order (stmt_term c.get.result.now)) p s (sym body)
-    (before_first d opts xs ys p p s s (before_row d opts (times (n - i) xs) (xs ++ ys) p s split c.loop-turn.invariant.before)) in
+    let first : IsBefore d opts extra (in_order (stmt_term c.get.result.now)) p s =
+    before_row d opts extra xs (in_order (stmt_term c.get.result.now)) p s (sym body)
+    (before_first d opts extra xs ys p p s s (before_row d opts extra (times (n - i) xs) (xs ++ ys) p s split c.loop-turn.invariant.before)) in
     λ κs lives. (search (rules, the_lemmas), (lives.0, (lives.1, (c.requires.classes, (c.requires.allowed, (c.requires.can_run, first))))))
 
 pub walk_one-loop-turn-preserved : goal.walk_one-loop-turn-preserved
 walk_one-loop-turn-preserved g t c =
     let d = design_term c.args.script.now.design.now in
     let opts = c.args.script.now.opts in
+    let extra = c.args.script.now.extra in
     let xs = in_order (stmt_term c.in-Repeat.body) in
     let n = c.in-Repeat.count in
     let i = c.loop-turn._turn in
@@ -82,17 +87,18 @@ walk_one-loop-turn-preserved g t c =
     let ys = times (n - (i + 1)) xs in
     let split : times (n - i) xs ≡ xs ++ ys = next_turn n i xs c.loop-turn-test.true in
     let body : in_order (stmt_term c.get.result.now) ≡ xs = ap (λ (x : TStmt). in_order (stmt_term x)) c.get.ensures in
-    let turn : Goes d opts xs p s q u = goes_row d opts (in_order (stmt_term c.get.result.now)) xs p q s u body c.in_ok-walk_one-in-Repeat.ensures.goes in
+    let turn : Goes d opts extra xs p s q u = goes_row d opts extra (in_order (stmt_term c.get.result.now)) xs p q s u body c.in_ok-walk_one-in-Repeat.ensures.goes in
     record {
-      before = before_next d opts xs ys p q s u (before_row d opts (times (n - i) xs) (xs ++ ys) p s split c.loop-turn.invariant.before) turn;
-      goes = λ r after way. c.loop-turn.invariant.goes r after (goes_row d opts (xs ++ ys) (times (n - i) xs) p r s after (sym split) (goes_then d opts xs ys p q s u r after turn way));
-      breaks = λ why after halt. c.loop-turn.invariant.breaks why after (breaks_row d opts (xs ++ ys) (times (n - i) xs) p s after why (sym split) (breaks_then d opts xs ys p q s u why after turn halt));
+      before = before_next d opts extra xs ys p q s u (before_row d opts extra (times (n - i) xs) (xs ++ ys) p s split c.loop-turn.invariant.before) turn;
+      goes = λ r after way. c.loop-turn.invariant.goes r after (goes_row d opts extra (xs ++ ys) (times (n - i) xs) p r s after (sym split) (goes_then d opts extra xs ys p q s u r after turn way));
+      breaks = λ why after halt. c.loop-turn.invariant.breaks why after (breaks_row d opts extra (xs ++ ys) (times (n - i) xs) p s after why (sym split) (breaks_then d opts extra xs ys p q s u why after turn halt));
     }
 
 pub walk_one-returns-in_err-walk_one-in-Repeat-clause-breaks : goal.walk_one-returns-in_err-walk_one-in-Repeat-clause-breaks
 walk_one-returns-in_err-walk_one-in-Repeat-clause-breaks g t c =
     let d = design_term c.args.script.now.design.now in
     let opts = c.args.script.now.opts in
+    let extra = c.args.script.now.extra in
     let xs = in_order (stmt_term c.in-Repeat.body) in
     let n = c.in-Repeat.count in
     let i = c.loop-turn._turn in
@@ -105,17 +111,18 @@ walk_one-returns-in_err-walk_one-in-Repeat-clause-breaks g t c =
     let here : in_order (stmt_term c.args.stmt.now) ≡ times n xs = ap (λ (x : TStmt). in_order (stmt_term x)) c.in-Repeat.is ∙ repeat_order n c.in-Repeat.body in
     let body : in_order (stmt_term c.get.result.now) ≡ xs = ap (λ (x : TStmt). in_order (stmt_term x)) c.get.ensures in
     failed_as c.from_residual.result _ _ c.from_residual.ensures.1
-    (λ why e. breaks_as d opts (in_order (stmt_term c.args.stmt.now)) c.args.progress.now a u why _ e
-    (breaks_row d opts (times n xs) (in_order (stmt_term c.args.stmt.now)) c.args.progress.now a u _ (sym here)
+    (λ why e. breaks_as d opts extra (in_order (stmt_term c.args.stmt.now)) c.args.progress.now a u why _ e
+    (breaks_row d opts extra (times n xs) (in_order (stmt_term c.args.stmt.now)) c.args.progress.now a u _ (sym here)
     (c.loop-turn.invariant.breaks _ u
-    (breaks_row d opts (xs ++ ys) (times (n - i) xs) p s u _ (sym split)
-    (breaks_first d opts xs ys p p s s _ u
-    (breaks_row d opts (in_order (stmt_term c.get.result.now)) xs p s u _ body c.in_err-walk_one-in-Repeat.ensures.breaks))))))
+    (breaks_row d opts extra (xs ++ ys) (times (n - i) xs) p s u _ (sym split)
+    (breaks_first d opts extra xs ys p p s s _ u
+    (breaks_row d opts extra (in_order (stmt_term c.get.result.now)) xs p s u _ body c.in_err-walk_one-in-Repeat.ensures.breaks))))))
 
 pub walk_one-returns-after-loop-turn-clause-goes : goal.walk_one-returns-after-loop-turn-clause-goes
 walk_one-returns-after-loop-turn-clause-goes g t c =
     let d = design_term c.args.script.now.design.now in
     let opts = c.args.script.now.opts in
+    let extra = c.args.script.now.extra in
     let xs = in_order (stmt_term c.in-Repeat.body) in
     let n = c.in-Repeat.count in
     let i = c.loop-turn._turn in
@@ -124,8 +131,8 @@ walk_one-returns-after-loop-turn-clause-goes g t c =
     let a = sinks (g.K.Sink.written c.args.out.now) (g.K.Sink.faults c.args.out.now) (g.J.Sink.written c.args.journal.now) (g.J.Sink.faults c.args.journal.now) in
     let none : times (n - i) xs ≡ [] = no_turn n i xs (omega arith) in
     let here : in_order (stmt_term c.args.stmt.now) ≡ times n xs = ap (λ (x : TStmt). in_order (stmt_term x)) c.in-Repeat.is ∙ repeat_order n c.in-Repeat.body in
-    goes_row d opts (times n xs) (in_order (stmt_term c.args.stmt.now)) c.args.progress.now p a s (sym here)
-    (c.loop-turn.invariant.goes p s (goes_row d opts [] (times (n - i) xs) p p s s (sym none) (goes_nowhere d opts p s)))
+    goes_row d opts extra (times n xs) (in_order (stmt_term c.args.stmt.now)) c.args.progress.now p a s (sym here)
+    (c.loop-turn.invariant.goes p s (goes_row d opts extra [] (times (n - i) xs) p p s s (sym none) (goes_nowhere d opts extra p s)))
 
 -- ---- statements in a row
 
@@ -133,6 +140,7 @@ pub walk_all-walk_one-requires : goal.walk_all-walk_one-requires
 walk_all-walk_one-requires g t c =
     let d = design_term c.args.script.now.design.now in
     let opts = c.args.script.now.opts in
+    let extra = c.args.script.now.extra in
     let i = c.loop-stmt.stmt-index in
     let item = c.stmt-item.result in
     let rest = drop (i + 1) c.args.stmts.now in
@@ -142,13 +150,14 @@ walk_all-walk_one-requires g t c =
     let s = sinks (g.K.Sink.written c.loop-stmt.out) (g.K.Sink.faults c.loop-stmt.out) (g.J.Sink.written c.loop-stmt.journal) (g.J.Sink.faults c.loop-stmt.journal) in
     let less : i < length c.args.stmts.now = omega arith in
     let row : all_in_order (stmt_terms (drop i c.args.stmts.now)) ≡ xs ++ ys = ap (λ (ss : List TStmt). all_in_order (stmt_terms ss)) (front_of c.args.stmts.now i item less c.stmt-item.is) in
-    let first : IsBefore d opts xs p s = before_first d opts xs ys p p s s (before_row d opts (all_in_order (stmt_terms (drop i c.args.stmts.now))) (xs ++ ys) p s row c.loop-stmt.invariant.before) in
+    let first : IsBefore d opts extra xs p s = before_first d opts extra xs ys p p s s (before_row d opts extra (all_in_order (stmt_terms (drop i c.args.stmts.now))) (xs ++ ys) p s row c.loop-stmt.invariant.before) in
     λ κs lives. (search (rules, the_lemmas), (lives.0, (lives.1, (c.requires.classes, (c.requires.allowed, (c.requires.can_run, first))))))
 
 pub walk_all-loop-stmt-preserved : goal.walk_all-loop-stmt-preserved
 walk_all-loop-stmt-preserved g t c =
     let d = design_term c.args.script.now.design.now in
     let opts = c.args.script.now.opts in
+    let extra = c.args.script.now.extra in
     let i = c.loop-stmt.stmt-index in
     let item = c.stmt-item.result in
     let rest = drop (i + 1) c.args.stmts.now in
@@ -161,17 +170,18 @@ walk_all-loop-stmt-preserved g t c =
     let less : i < length c.args.stmts.now = omega arith in
     let row : all_in_order (stmt_terms (drop i c.args.stmts.now)) ≡ xs ++ ys = ap (λ (ss : List TStmt). all_in_order (stmt_terms ss)) (front_of c.args.stmts.now i item less c.stmt-item.is) in
     let zs = all_in_order (stmt_terms (drop i c.args.stmts.now)) in
-    let turn : Goes d opts xs p s q u = c.in_ok-walk_one.ensures.goes in
+    let turn : Goes d opts extra xs p s q u = c.in_ok-walk_one.ensures.goes in
     record {
-      before = before_next d opts xs ys p q s u (before_row d opts zs (xs ++ ys) p s row c.loop-stmt.invariant.before) turn;
-      goes = λ r after way. c.loop-stmt.invariant.goes r after (goes_row d opts (xs ++ ys) zs p r s after (sym row) (goes_then d opts xs ys p q s u r after turn way));
-      breaks = λ why after halt. c.loop-stmt.invariant.breaks why after (breaks_row d opts (xs ++ ys) zs p s after why (sym row) (breaks_then d opts xs ys p q s u why after turn halt));
+      before = before_next d opts extra xs ys p q s u (before_row d opts extra zs (xs ++ ys) p s row c.loop-stmt.invariant.before) turn;
+      goes = λ r after way. c.loop-stmt.invariant.goes r after (goes_row d opts extra (xs ++ ys) zs p r s after (sym row) (goes_then d opts extra xs ys p q s u r after turn way));
+      breaks = λ why after halt. c.loop-stmt.invariant.breaks why after (breaks_row d opts extra (xs ++ ys) zs p s after why (sym row) (breaks_then d opts extra xs ys p q s u why after turn halt));
     }
 
 pub walk_all-returns-in_err-walk_one-clause-breaks : goal.walk_all-returns-in_err-walk_one-clause-breaks
 walk_all-returns-in_err-walk_one-clause-breaks g t c =
     let d = design_term c.args.script.now.design.now in
     let opts = c.args.script.now.opts in
+    let extra = c.args.script.now.extra in
     let i = c.loop-stmt.stmt-index in
     let item = c.stmt-item.result in
     let rest = drop (i + 1) c.args.stmts.now in
@@ -184,18 +194,19 @@ walk_all-returns-in_err-walk_one-clause-breaks g t c =
     let less : i < length c.args.stmts.now = omega arith in
     let row : all_in_order (stmt_terms (drop i c.args.stmts.now)) ≡ xs ++ ys = ap (λ (ss : List TStmt). all_in_order (stmt_terms ss)) (front_of c.args.stmts.now i item less c.stmt-item.is) in
     failed_as c.from_residual.result _ _ c.from_residual.ensures.1
-    (λ why e. breaks_as d opts (all_in_order (stmt_terms c.args.stmts.now)) c.args.progress.now a u why _ e
+    (λ why e. breaks_as d opts extra (all_in_order (stmt_terms c.args.stmts.now)) c.args.progress.now a u why _ e
     (c.loop-stmt.invariant.breaks _ u
-    (breaks_row d opts (xs ++ ys) (all_in_order (stmt_terms (drop i c.args.stmts.now))) p s u _ (sym row)
-    (breaks_first d opts xs ys p p s s _ u c.in_err-walk_one.ensures.breaks))))
+    (breaks_row d opts extra (xs ++ ys) (all_in_order (stmt_terms (drop i c.args.stmts.now))) p s u _ (sym row)
+    (breaks_first d opts extra xs ys p p s s _ u c.in_err-walk_one.ensures.breaks))))
 
 pub walk_all-returns-clause-goes : goal.walk_all-returns-clause-goes
 walk_all-returns-clause-goes g t c =
     let d = design_term c.args.script.now.design.now in
     let opts = c.args.script.now.opts in
+    let extra = c.args.script.now.extra in
     let i = c.loop-stmt.stmt-index in
     let p = c.loop-stmt.progress in
     let s = sinks (g.K.Sink.written c.loop-stmt.out) (g.K.Sink.faults c.loop-stmt.out) (g.J.Sink.written c.loop-stmt.journal) (g.J.Sink.faults c.loop-stmt.journal) in
     let zs = all_in_order (stmt_terms (drop i c.args.stmts.now)) in
     let none : zs ≡ [] = at_drop_all (λ (ss : List TStmt). all_in_order (stmt_terms ss)) c.args.stmts.now i (omega arith) in
-    c.loop-stmt.invariant.goes p s (goes_row d opts [] zs p p s s (sym none) (goes_nowhere d opts p s))
+    c.loop-stmt.invariant.goes p s (goes_row d opts extra [] zs p p s s (sym none) (goes_nowhere d opts extra p s))

@@ -9,28 +9,28 @@ use Rattle.svr_run.proofs.walk.+walk.Given as goal
 
 abbrev pub invariant-walk_one-loop-turn : goal.invariant-walk_one-loop-turn
 invariant-walk_one-loop-turn g l = record {
-  before : IsBefore (design_term l.script.design.now) l.script.opts (times (l._turn-end - l._turn) (in_order (stmt_term l.body))) l.progress
+  before : IsBefore (design_term l.script.design.now) l.script.opts l.script.extra (times (l._turn-end - l._turn) (in_order (stmt_term l.body))) l.progress
       (sinks (g.K.Sink.written l.out) (g.K.Sink.faults l.out) (g.J.Sink.written l.journal) (g.J.Sink.faults l.journal));
-  goes : (q : Progress) (after : Sinks) → Goes (design_term l.script.design.now) l.script.opts (times (l._turn-end - l._turn) (in_order (stmt_term l.body))) l.progress
+  goes : (q : Progress) (after : Sinks) → Goes (design_term l.script.design.now) l.script.opts l.script.extra (times (l._turn-end - l._turn) (in_order (stmt_term l.body))) l.progress
       (sinks (g.K.Sink.written l.out) (g.K.Sink.faults l.out) (g.J.Sink.written l.journal) (g.J.Sink.faults l.journal)) q after
-      → Goes (design_term l.script.design.now) l.script.opts (times l._turn-end (in_order (stmt_term l.body))) l.fn.progress
+      → Goes (design_term l.script.design.now) l.script.opts l.script.extra (times l._turn-end (in_order (stmt_term l.body))) l.fn.progress
       (sinks (g.K.Sink.written l.fn.out) (g.K.Sink.faults l.fn.out) (g.J.Sink.written l.fn.journal) (g.J.Sink.faults l.fn.journal)) q after;
-  breaks : (why : Stop) (after : Sinks) → Breaks (design_term l.script.design.now) l.script.opts (times (l._turn-end - l._turn) (in_order (stmt_term l.body))) l.progress
+  breaks : (why : Stop) (after : Sinks) → Breaks (design_term l.script.design.now) l.script.opts l.script.extra (times (l._turn-end - l._turn) (in_order (stmt_term l.body))) l.progress
       (sinks (g.K.Sink.written l.out) (g.K.Sink.faults l.out) (g.J.Sink.written l.journal) (g.J.Sink.faults l.journal)) why after
-      → Breaks (design_term l.script.design.now) l.script.opts (times l._turn-end (in_order (stmt_term l.body))) l.fn.progress
+      → Breaks (design_term l.script.design.now) l.script.opts l.script.extra (times l._turn-end (in_order (stmt_term l.body))) l.fn.progress
       (sinks (g.K.Sink.written l.fn.out) (g.K.Sink.faults l.fn.out) (g.J.Sink.written l.fn.journal) (g.J.Sink.faults l.fn.journal)) why after;
 }
 
 abbrev pub invariant-walk_all-loop-stmt : goal.invariant-walk_all-loop-stmt
 invariant-walk_all-loop-stmt g l = record {
-  before : IsBefore (design_term l.script.design.now) l.script.opts (all_in_order (stmt_terms (drop l.stmt-index l.stmts))) l.progress
+  before : IsBefore (design_term l.script.design.now) l.script.opts l.script.extra (all_in_order (stmt_terms (drop l.stmt-index l.stmts))) l.progress
       (sinks (g.K.Sink.written l.out) (g.K.Sink.faults l.out) (g.J.Sink.written l.journal) (g.J.Sink.faults l.journal));
-  goes : (q : Progress) (after : Sinks) → Goes (design_term l.script.design.now) l.script.opts (all_in_order (stmt_terms (drop l.stmt-index l.stmts))) l.progress
+  goes : (q : Progress) (after : Sinks) → Goes (design_term l.script.design.now) l.script.opts l.script.extra (all_in_order (stmt_terms (drop l.stmt-index l.stmts))) l.progress
       (sinks (g.K.Sink.written l.out) (g.K.Sink.faults l.out) (g.J.Sink.written l.journal) (g.J.Sink.faults l.journal)) q after
-      → Goes (design_term l.script.design.now) l.script.opts (all_in_order (stmt_terms l.stmts)) l.fn.progress
+      → Goes (design_term l.script.design.now) l.script.opts l.script.extra (all_in_order (stmt_terms l.stmts)) l.fn.progress
       (sinks (g.K.Sink.written l.fn.out) (g.K.Sink.faults l.fn.out) (g.J.Sink.written l.fn.journal) (g.J.Sink.faults l.fn.journal)) q after;
-  breaks : (why : Stop) (after : Sinks) → Breaks (design_term l.script.design.now) l.script.opts (all_in_order (stmt_terms (drop l.stmt-index l.stmts))) l.progress
+  breaks : (why : Stop) (after : Sinks) → Breaks (design_term l.script.design.now) l.script.opts l.script.extra (all_in_order (stmt_terms (drop l.stmt-index l.stmts))) l.progress
       (sinks (g.K.Sink.written l.out) (g.K.Sink.faults l.out) (g.J.Sink.written l.journal) (g.J.Sink.faults l.journal)) why after
-      → Breaks (design_term l.script.design.now) l.script.opts (all_in_order (stmt_terms l.stmts)) l.fn.progress
+      → Breaks (design_term l.script.design.now) l.script.opts l.script.extra (all_in_order (stmt_terms l.stmts)) l.fn.progress
       (sinks (g.K.Sink.written l.fn.out) (g.K.Sink.faults l.fn.out) (g.J.Sink.written l.fn.journal) (g.J.Sink.faults l.fn.journal)) why after;
 }

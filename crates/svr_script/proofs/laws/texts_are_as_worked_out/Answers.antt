@@ -9,3 +9,7 @@ returns-clause-lines c = refl
 pub returns-clause-proofs : goal.returns-clause-proofs
 unfolding digits
 returns-clause-proofs c = refl
+
+pub returns-clause-conflicts : goal.returns-clause-conflicts
+unfolding digits
+returns-clause-conflicts c = refl

@@ -1,0 +1,4 @@
+pub mod Cuts
+pub mod Items
+pub mod Told
+pub mod Concluded

@@ -1,0 +1,4 @@
+pub mod Cut
+pub mod Conflicts
+pub mod Ends
+pub mod Read

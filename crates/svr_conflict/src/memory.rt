@@ -1,0 +1,55 @@
+// Want of memory.
+
+use std::alloc::{AllocError, AllocFailed};
+
+/// An allocation was refused.
+#[derive(Clone, Copy, Debug, PartialEq, Eq)]
+pub struct NoMemory;
+
+impl From<AllocError> for NoMemory {
+    fn from(_error: AllocError) -> NoMemory {
+        NoMemory
+    }
+}
+
+impl<T: Drop> From<AllocFailed<T>> for NoMemory {
+    fn from(_error: AllocFailed<T>) -> NoMemory {
+        NoMemory
+    }
+}
+
+impl From<svr_typed::NoMemory> for NoMemory {
+    fn from(_error: svr_typed::NoMemory) -> NoMemory {
+        NoMemory
+    }
+}
+
+impl From<svr_vector::NoMemory> for NoMemory {
+    fn from(_error: svr_vector::NoMemory) -> NoMemory {
+        NoMemory
+    }
+}
+
+impl From<svr_query::NoMemory> for NoMemory {
+    fn from(_error: svr_query::NoMemory) -> NoMemory {
+        NoMemory
+    }
+}
+
+impl From<svr_core::NoMemory> for NoMemory {
+    fn from(_error: svr_core::NoMemory) -> NoMemory {
+        NoMemory
+    }
+}
+
+impl From<svr_clauses::NoMemory> for NoMemory {
+    fn from(_error: svr_clauses::NoMemory) -> NoMemory {
+        NoMemory
+    }
+}
+
+impl From<svr_question::NoMemory> for NoMemory {
+    fn from(_error: svr_question::NoMemory) -> NoMemory {
+        NoMemory
+    }
+}

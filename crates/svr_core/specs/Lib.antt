@@ -1,0 +1,4 @@
+pub mod Groups
+pub mod Cores
+pub mod End
+pub mod Walked
