@@ -39,7 +39,7 @@ def examples():
 
 def scripts():
     """The scripts of the guide, each with what it prints, where that is told."""
-    blocks = re.findall(r"^```(\w+)\n(.*?)^```$", GUIDE.read_text(), re.M | re.S)
+    blocks = re.findall(r"^```(\w+)(?: \S+)?\n(.*?)^```$", GUIDE.read_text(), re.M | re.S)
     return [
         (text, blocks[i + 1][1] if i + 1 < len(blocks) and blocks[i + 1][0] == "text" else None)
         for i, (kind, text) in enumerate(blocks)

@@ -66,10 +66,11 @@ def properties(size):
 
 
 def variables(size):
-    """4,096 variables, each with a sum of 40 operands, as long as the text lets them be."""
-    digits = (size - 60_000) // 4096 // 40 - 3
+    """4,096 variables, fewer in a text below 1 MiB, each with a sum of 40 operands, as long as the text lets them be."""
+    count = min(4096, size // 256)
+    digits = (size - 16 * count) // count // 40 - 3
     total = " + ".join(["0" * (digits - 1) + "1"] * 40)
-    declared = "".join(f"int v{i} = {total};\n" for i in range(4095))
+    declared = "".join(f"int v{i} = {total};\n" for i in range(count - 1))
     text = script("class P;\nendclass\n", "p.randomize();\n", declared + "P p = new;\n")
     return text + " " * (size - len(text))
 
@@ -118,6 +119,38 @@ def grown_classes(size):
     """A chain of classes, each of which adds a block to those that it inherits."""
     back = script("", "p.randomize();\n", "C0 p = new;\n")
     return filled(size, "class C0;\nendclass\n", lambda k: f"class C{k + 1} extends C{k};\nconstraint c{k} {{}}\nendclass\n", back)
+
+
+def last_class(size):
+    """A chain of classes, each of which adds a block, and an object of the last one."""
+    text, number = "class C0;\nendclass\n", 0
+    while True:
+        more = f"class C{number + 1} extends C{number};\nconstraint c{number} {{}}\nendclass\n"
+        back = script("", "p.randomize();\n", f"C{number + 1} p = new;\n")
+        if len(text) + len(more) + len(back) > size:
+            back = script("", "p.randomize();\n", f"C{number} p = new;\n")
+            return text + " " * (size - len(text) - len(back)) + back
+        text, number = text + more, number + 1
+
+
+def used_classes(size):
+    """A chain of classes, each of which adds a block, and a variable of each, at most 4,095."""
+    classes, declared, number, rest = "class C0;\nendclass\n", "C0 p = new;\n", 1, len(script("", "p.randomize();\n", ""))
+    while True:
+        more = f"class C{number} extends C{number - 1};\nconstraint c{number} {{}}\nendclass\n"
+        one = f"C{number} v{number};\n" if number < 4095 else ""
+        if len(classes) + len(declared) + len(more) + len(one) + rest > size:
+            text = script(classes, "p.randomize();\n", declared)
+            return text + " " * (size - len(text))
+        classes, declared, number = classes + more, declared + one, number + 1
+
+
+def objects(size):
+    """Object variables, 4,096 at 4 MiB, and as many statements that read two of them."""
+    count = size // 1024
+    declared = "".join(f"P v{k} = new;\n" for k in range(count - 2))
+    text = script("class P;\nrand bit [7:0] a;\nendclass\n", "p.a = p.a + q.a;\n" * count + "p.randomize();\n", "P p = new;\nP q = new;\n" + declared)
+    return text + " " * (size - len(text))
 
 
 def blocks(size):
@@ -181,7 +214,7 @@ def cyclic(size):
     return text + " " * (size - len(text))
 
 
-KINDS = [comment, name, properties, variables, statements, calls, arrays, loops, parentheses, classes, grown_classes, blocks, replaced, solves, uniques, softs, disables, members, searched_members, cyclic]
+KINDS = [comment, name, properties, variables, statements, calls, arrays, loops, parentheses, classes, grown_classes, last_class, used_classes, objects, blocks, replaced, solves, uniques, softs, disables, members, searched_members, cyclic]
 
 
 def text_of(kind, size):

@@ -5,9 +5,10 @@
 
 PROGRAM is the built program, as crates/svrand/out/svrand. A library that stands before the C library refuses the
 allocation of a number. Each run with a refused allocation has to end with status 8, and what it has written has to be a
-front of what the run writes where nothing is refused. Prints a line for each script; the exit status is 1 where a run
+front of what the run writes where nothing is refused. Prints a line for each script with each of two lists of words; the exit status is 1 where a run
 ends otherwise. It needs a C compiler (cc).
 """
+import itertools
 import os
 import pathlib
 import subprocess
@@ -85,18 +86,21 @@ endclass
 }
 
 
-def run(program, text, shim, **more):
+WORDS = [["run", "--proofs"], ["run", "--conflicts", "--lrat"]]
+
+
+def run(program, words, text, shim, **more):
     env = {**os.environ, "LD_PRELOAD": str(shim), **more}
-    ended = subprocess.run([program, "run", "--proofs"], input=text.encode(), capture_output=True, env=env, check=False)
+    ended = subprocess.run([program, *words], input=text.encode(), capture_output=True, env=env, check=False)
     return ended.returncode, ended.stdout
 
 
-def sweep(program, text, shim, counted):
+def sweep(program, words, text, shim, counted):
     """How many allocations a run makes, and those with which it ends otherwise than it should."""
-    status, whole = run(program, text, shim, COUNTED=str(counted))
+    status, whole = run(program, words, text, shim, COUNTED=str(counted))
     count, odd = int(counted.read_text()), []
     for number in range(1, count + 1):
-        found, front = run(program, text, shim, REFUSED=str(number))
+        found, front = run(program, words, text, shim, REFUSED=str(number))
         if found != 8 or not whole.startswith(front):
             odd.append((number, found))
     return status, count, odd
@@ -110,10 +114,10 @@ def main():
         source, shim, counted = (pathlib.Path(folder) / name for name in ("shim.c", "shim.so", "counted"))
         source.write_text(SHIM)
         subprocess.run(["cc", "-O2", "-shared", "-fPIC", "-o", shim, source], check=True)
-        for name, text in SCRIPTS.items():
-            status, count, odd = sweep(program, text, shim, counted)
+        for (name, text), words in itertools.product(SCRIPTS.items(), WORDS):
+            status, count, odd = sweep(program, words, text, shim, counted)
             is_clean = is_clean and not odd
-            print(f"{name}: status {status}, {count} allocations, {count - len(odd)} of them refused with status 8 and a front", *odd[:10], flush=True)
+            print(f"{name}, {' '.join(words)}: status {status}, {count} allocations, {count - len(odd)} of them refused with status 8 and a front", *odd[:10], flush=True)
     return 0 if is_clean else 1
 
 

@@ -1,12 +1,16 @@
 #!/usr/bin/env python3
-"""Writes the scripts of the benchmarks of elaboration and of calls into a folder.
+"""Writes the scripts of the benchmarks of elaboration, of calls, of runs and of variety into a folder.
 
 many.sv has 2,000 classes, each with an array, a loop and a soft item, and a
 variable and a call for each; wide.sv has one class of 1,000 properties, and
 items of 90 operands or 400 members up to 4 MiB, the most that is read.
 searched.sv has 1,000 calls of a class of ten `int` properties and twenty items,
 which preferred values hardly ever meet; preferred.sv has 99,998 calls, as many as may be, of a class
-whose items they always meet.
+whose items they always meet; conflicts.sv has one call of a class of 200 items,
+of which three contradict each other.
+
+Of runs, small scripts of the kinds that users write: packets.sv, ascending.sv, defaults.sv, grid.sv, quotients.sv,
+ranges.sv. Of variety, 1,000 calls each on an object with few solutions: VARIETY says how many.
 
 usage: scripts.py FOLDER
 """
@@ -85,14 +89,121 @@ def preferred(count):
     return calls(count, items)
 
 
-def main():
-    folder = pathlib.Path(sys.argv[1])
+def conflicts(count):
+    """So many items over 64 properties: the first one, one in the middle and the last one order three properties in a ring."""
+    ring = {1: "a0 < a1;", count // 2: "a1 < a2;", count: "a2 < a0;"}
+    items = ""
+    for k in range(1, count + 1):
+        one, other = f"a{k % 64}", f"a{(k + 7) % 64}"
+        forms = [
+            f"{one} + {other} != 16'd{37 * k};",
+            f"{one} inside {{[0:16'd{60000 + k}]}};",
+            f"({one} ^ {other}) < 16'd{64000 + k};",
+            f"{one} != {other} || {one} > 16'd{k};",
+        ]
+        items += ring.get(k, forms[k % 4]) + "\n"
+    props = "".join(f"rand bit [15:0] a{i};\n" for i in range(64))
+    head = f"class Packet;\n{props}constraint c {{\n{items}}}\nendclass\n"
+    return f"{head}module m;\ninitial begin\nPacket p = new;\np.randomize();\nend\nendmodule\n"
+
+
+def run_of(body, calls):
+    """A script of one class `C` and so many calls."""
+    return f"{body}module m;\ninitial begin\nC c = new;\nrepeat ({calls}) c.randomize();\nend\nendmodule\n"
+
+
+def packets():
+    """20 packets whose payload has 51 to 64 bytes, each byte its own index."""
+    kinds = "typedef enum bit [1:0] { READ, WRITE, IDLE } kind_t;\n"
+    body = "class C;\nrand kind_t kind;\nrand int length;\nrand bit [7:0] payload [];\n"
+    body += "constraint sized { length inside {[46:64]}; payload.size() == length; }\n"
+    body += "constraint filled { foreach (payload[i]) payload[i] == i; }\nendclass\n"
+    return kinds + run_of(body, 20).replace("randomize()", "randomize() with { length > 50; kind == WRITE; }")
+
+
+def ascending():
+    """10 rising arrays of 32 different numbers within 200."""
+    body = "class C;\nrand bit [15:0] d [32];\nrand bit [15:0] low, high;\n"
+    body += "constraint rising { foreach (d[i]) (i < 31) -> d[i] < d[i + 1]; }\n"
+    body += "constraint near { d[0] == low; d[31] == high; high - low < 16'd200; unique {d}; }\nendclass\n"
+    return run_of(body, 10)
+
+
+def defaults():
+    """5 calls with 40 soft items over four numbers with a known sum, most of which are dropped."""
+    body = "class C;\nrand bit [15:0] a, b, c, d;\n"
+    body += "constraint rising { a + b + c + d == 16'd4000; a < b; b < c; c < d; }\nconstraint usual {\n"
+    body += "".join(f"soft {'abcd'[k % 4]} == 16'd{211 * k % 3000};\n" for k in range(40)) + "}\nendclass\n"
+    return run_of(body, 5)
+
+
+PUZZLE = "530070000600195000098000060800060003400803001700020006060000280000419005000080079"
+
+
+def grid():
+    """One sudoku, as `unique` over 27 lists of nine cells."""
+    groups = [[9 * r + c for c in range(9)] for r in range(9)]
+    groups += [[9 * r + c for r in range(9)] for c in range(9)]
+    groups += [[27 * (b // 3) + 3 * (b % 3) + 9 * r + c for r in range(3) for c in range(3)] for b in range(9)]
+    items = "".join("unique {" + ", ".join(f"s[{cell}]" for cell in group) + "};\n" for group in groups)
+    given = "".join(f"s[{cell}] == {digit};\n" for cell, digit in enumerate(PUZZLE) if digit != "0")
+    body = "class C;\nrand bit [3:0] s [81];\nconstraint digits { foreach (s[i]) s[i] inside {[1:9]}; }\n"
+    return run_of(f"{body}constraint different {{\n{items}}}\nconstraint given {{\n{given}}}\nendclass\n", 1)
+
+
+def quotients():
+    """5 quotients and remainders of 32 bits."""
+    body = "class C;\nrand bit [31:0] n, d, q, r;\n"
+    body += "constraint divided { d != 0; q == n / d; r == n % d; q > 100; r > 7; d > 1000; r + d < 5000; }\nendclass\n"
+    return run_of(body, 5)
+
+
+def ranges():
+    """10 times eight ranges of addresses that do not overlap, aligned to 64."""
+    body = "class C;\nrand bit [31:0] base [8];\nrand bit [15:0] size [8];\nconstraint placed { foreach (base[i]) {\n"
+    body += "base[i] inside {[32'h8000_0000:32'h8fff_ffff]};\nsize[i] inside {[16'd64:16'd4096]};\n"
+    body += "(base[i] & 32'd63) == 0;\n(size[i] & 16'd63) == 0; } }\n"
+    body += "constraint apart { foreach (base[i]) foreach (base[j])\n"
+    body += "(i < j) -> (base[i] + size[i] <= base[j] || base[j] + size[j] <= base[i]); }\nendclass\n"
+    return run_of(body, 10)
+
+
+def varied(props, item):
+    """1,000 calls of a class with these properties and this item."""
+    return run_of(f"class C;\n{props}constraint c {{ {item} }}\nendclass\n", 1000)
+
+
+RUNS = {
+    "packets": packets,
+    "ascending": ascending,
+    "defaults": defaults,
+    "grid": grid,
+    "quotients": quotients,
+    "ranges": ranges,
+}
+
+# Each with its properties, its item and how many solutions it has.
+VARIETY = {
+    "not_one_bit": ("rand bit [5:0] x;\n", "x[0] + x[1] + x[2] + x[3] + x[4] + 32'd0 + x[5] != 1;", 58),
+    "sum": ("rand bit [5:0] x, y;\n", "x + y + 32'd0 == 57;", 58),
+    "one_bit": ("rand bit [57:0] x;\n", "x != 0; (x & (x - 1)) == 0;", 58),
+    "multiple": ("rand bit [31:0] y;\nrand bit [5:0] x;\n", "y == 71234567 * x; x < 58;", 58),
+    "chain": ("rand bit [5:0] x, y, z;\n", "x < 58; y == x + 6'd3; z == (y ^ 6'd21);", 58),
+}
+
+
+def write(folder):
     folder.mkdir(parents=True, exist_ok=True)
     (folder / "many.sv").write_text(many(2000))
     (folder / "wide.sv").write_text(wide(1000))
     (folder / "searched.sv").write_text(searched(1000))
     (folder / "preferred.sv").write_text(preferred(99_998))
+    (folder / "conflicts.sv").write_text(conflicts(200))
+    for name, made in RUNS.items():
+        (folder / f"{name}.sv").write_text(made())
+    for name, (props, item, _) in VARIETY.items():
+        (folder / f"{name}.sv").write_text(varied(props, item))
 
 
 if __name__ == "__main__":
-    main()
+    write(pathlib.Path(sys.argv[1]))
