@@ -14,3 +14,15 @@ pub const ELEMENT_LIMIT: u32 = 2048;
 
 /// How many loops stand around a place at the most, those of `foreach` and of array reductions together.
 pub const LOOP_LIMIT: usize = 256;
+
+/// The most object variables of a script, and the most other script variables.
+pub const VARIABLE_LIMIT: u32 = 4096;
+
+/// The most statements that a script runs, each as often as it runs.
+pub const STATEMENT_LIMIT: u32 = 100_000;
+
+/// The most that a phase of a call may weigh.
+pub const WEIGHT_LIMIT: u128 = 1_000_000;
+
+/// The greatest budget of a question, in learned clauses.
+pub const BUDGET_LIMIT: u64 = 16_777_216;

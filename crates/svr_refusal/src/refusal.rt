@@ -64,6 +64,16 @@ pub enum Refusal {
     NoDerivation,
     /// A number of a hinted derivation that is over its limit, or a variable that its header does not count: the number.
     DerivationTooLarge,
+    /// A token, or the end of the text, with which no cover groups go on.
+    NoGroups,
+    /// A name in a cover group that is no class, no scalar property of that class, not the sample's formal argument, or no point before it: the name.
+    UnknownCover,
+    /// A second cover group of one name, a second part of a group of one name, or a second `bins` of a point of one name: the second.
+    DoubleCover,
+    /// A limit of cover groups that is passed: the name of the group, part, `bins` or cross that passes it.
+    TooManyBins,
+    /// A range of bins whose upper bound is below its lower one, or that has a value which stands before it in the same `bins` with `[]`: the range.
+    BadBins,
     /// A token, or the end of the text, with which no `randsequence` text goes on.
     NoSequence,
     /// A name that no production has, where one is expanded or begun with; a second production of one name: the name.
@@ -75,7 +85,7 @@ pub enum Refusal {
 }
 
 impl Refusal {
-    /// The number under which a refusal is printed: from 1 to 27 for a script, 29 and 30 for a hinted derivation, from 36 to 39 for a `randsequence` text.
+    /// The number under which a refusal is printed: from 1 to 27 for a script, 29 and 30 for a hinted derivation, from 31 to 35 for cover groups, from 36 to 39 for a `randsequence` text.
     pub fn number(self) -> u8
         ensures { result ≡ spec.number_of self }
     {
@@ -109,6 +119,11 @@ impl Refusal {
             Refusal::TooLong => 27,
             Refusal::NoDerivation => 29,
             Refusal::DerivationTooLarge => 30,
+            Refusal::NoGroups => 31,
+            Refusal::UnknownCover => 32,
+            Refusal::DoubleCover => 33,
+            Refusal::TooManyBins => 34,
+            Refusal::BadBins => 35,
             Refusal::NoSequence => 36,
             Refusal::UnknownProduction => 37,
             Refusal::NoWeight => 38,
