@@ -1,5 +1,6 @@
 // Laws of the definitions that layers above cite: each function has an empty body, and its contract is the law.
 
+ghost use Rattle.svr_limits.specs.declared.limit.TheConstants.{ELEMENT_LIMIT};
 ghost use Rattle.std.specs.Prelude.{◌≡◌, ◌≤◌, ℕ, true, false, List, [], length};
 ghost use Rattle.svr_chain.specs.Views.{RefutationView};
 ghost use Rattle.svr_eval.specs.Reading.{Reading};
@@ -39,13 +40,13 @@ pub fn an_answer_1_replaces_the_random_properties()
 
 /// An answer 1 leaves the numbers of an assignment of the last phase that has the chosen cyclic values and meets every active hard item, and of the live soft items just those that the pass keeps: all of them where the preferred values are the answer.
 pub fn an_answer_1_meets_the_items()
-    ensures one { (c : Call) (kept : List ℕ) (dropped : List Dropped) (cycles : List Renewed) (encodings : List Encoded) (change : Change) → (is : IsOne c kept dropped cycles encodings change) → IsSound c.frame → c.cap ≤ 2048 → (a : Reading) × IsAssignment c.frame All is.sizes (fixed_of is.choices) a × MeetsItems c is.sizes a is.fates × (change.values ≡ new_numbers c is.sizes a) }
-    ensures preferred { (c : Call) (choices : List Choice) (sizes : List ℕ) → IsSound c.frame → c.cap ≤ 2048 → HasSizes c choices sizes → fits_preferred_values c choices sizes ≡ true → IsAssignment c.frame All sizes (fixed_of choices) (preferred c choices sizes) × MeetsItems c sizes (preferred c choices sizes) (all_kept (soft_items c sizes)) }
+    ensures one { (c : Call) (kept : List ℕ) (dropped : List Dropped) (cycles : List Renewed) (encodings : List Encoded) (change : Change) → (is : IsOne c kept dropped cycles encodings change) → IsSound c.frame → c.cap ≤ ELEMENT_LIMIT → (a : Reading) × IsAssignment c.frame All is.sizes (fixed_of is.choices) a × MeetsItems c is.sizes a is.fates × (change.values ≡ new_numbers c is.sizes a) }
+    ensures preferred { (c : Call) (choices : List Choice) (sizes : List ℕ) → IsSound c.frame → c.cap ≤ ELEMENT_LIMIT → HasSizes c choices sizes → fits_preferred_values c choices sizes ≡ true → IsAssignment c.frame All sizes (fixed_of choices) (preferred c choices sizes) × MeetsItems c sizes (preferred c choices sizes) (all_kept (soft_items c sizes)) }
 {}
 
 /// An answer 0 of the last phase means that no assignment with its cyclic values and at its sizes meets all active items and domains; one of the sizes, that no sizes up to 2 ^ 31 - 1 meet the hard items of the sizes.
 pub fn an_answer_0_means_that_nothing_meets_the_items()
-    ensures values { (w : WorldTerm) (o : ℕ) (c : Call) (chosen : List (ℕ × ℕ)) (sizes : List ℕ) (proofs : List Proof) (encodings : List Encoded) (w2 : WorldTerm) → IsSound c.frame → c.cap ≤ 2048 → Steps w o c (Zero All chosen sizes proofs encodings) w2 → (a : Reading) → IsAssignment c.frame All sizes chosen a → all_true a (domain_items c.frame All sizes) ≡ true → all_hold a [] c.frame.items ≡ true → ⊥ }
+    ensures values { (w : WorldTerm) (o : ℕ) (c : Call) (chosen : List (ℕ × ℕ)) (sizes : List ℕ) (proofs : List Proof) (encodings : List Encoded) (w2 : WorldTerm) → IsSound c.frame → c.cap ≤ ELEMENT_LIMIT → Steps w o c (Zero All chosen sizes proofs encodings) w2 → (a : Reading) → IsAssignment c.frame All sizes chosen a → all_true a (domain_items c.frame All sizes) ≡ true → all_hold a [] c.frame.items ≡ true → ⊥ }
     ensures sizes { (w : WorldTerm) (o : ℕ) (c : Call) (chosen : List (ℕ × ℕ)) (sizes : List ℕ) (proofs : List Proof) (encodings : List Encoded) (w2 : WorldTerm) → Steps w o c (Zero Sizes chosen sizes proofs encodings) w2 → (a : Reading) → IsAssignment c.frame Sizes c.frame.state.sizes chosen a → all_true a (hard_of c.frame Sizes c.frame.state.sizes) ≡ true → ⊥ }
 {}
 

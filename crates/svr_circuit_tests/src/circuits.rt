@@ -11,7 +11,7 @@ use std::alloc::Global;
 use svr_arith::{add, div, equal, less, mul, neg, rem, sub};
 use svr_chain::{Cnf, Lit};
 use svr_gate::Builder;
-use svr_shape::{NoMemory, Shift, all, any, choose, extend, odd, shift};
+use svr_shape::{NoMemory, ShiftKind, all, any, choose, extend, odd, shift};
 
 /// How many input variables there are: x and y of four bits, and a test.
 const INPUTS: u32 = 9;
@@ -24,7 +24,7 @@ enum Circuit {
     Negate,
     Divide { signed: bool },
     Remainder { signed: bool },
-    Shift(Shift),
+    Shift(ShiftKind),
     Choose,
     Extend { signed: bool },
 }
@@ -59,9 +59,9 @@ const DIVISIONS: [Circuit; 4] = [
 ];
 
 const SHAPES: [Circuit; 6] = [
-    Circuit::Shift(Shift::Left),
-    Circuit::Shift(Shift::Right),
-    Circuit::Shift(Shift::Signed),
+    Circuit::Shift(ShiftKind::Left),
+    Circuit::Shift(ShiftKind::Right),
+    Circuit::Shift(ShiftKind::Signed),
     Circuit::Choose,
     Circuit::Extend { signed: true },
     Circuit::Extend { signed: false },

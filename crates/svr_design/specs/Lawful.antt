@@ -3,7 +3,7 @@ use Rattle.std.specs.Prelude.{◌≡◌, ◌≤◌, ◌<◌, ◌+◌, ◌^◌, �
 use Rattle.std.specs.List.{list_any}
 use Rattle.svr_operator.specs.declared.Rand.{Rand}
 use Rattle.svr_operator.specs.declared.Rand.TheVariants as rand
-use Rattle.svr_limits.specs.declared.limit.TheConstants.{PROPERTY_LIMIT}
+use Rattle.svr_limits.specs.declared.limit.TheConstants.{PROPERTY_LIMIT, STATEMENT_LIMIT, VARIABLE_LIMIT}
 use Rattle.svr_typed.specs.declared.Prop.{Prop}
 use Rattle.svr_typed.specs.declared.TVar.{TVar}
 use Rattle.svr_typed.specs.declared.VarKind.{VarKind}
@@ -119,6 +119,6 @@ pub record IsLawful (d : DesignTerm) : Type 0 where
   pub vars : Every (λ (v : TVar). VariableStands d v.kind) d.vars
   pub stmts : AllStmtsStand d d.stmts
   pub made : AllFollow [] d.stmts
-  pub few_objects : objects_in d.vars ≤ 4096
-  pub few_others : length d.vars ≤ objects_in d.vars + 4096
-  pub few_stmts : all_run d.stmts ≤ 100000
+  pub few_objects : objects_in d.vars ≤ VARIABLE_LIMIT
+  pub few_others : length d.vars ≤ objects_in d.vars + VARIABLE_LIMIT
+  pub few_stmts : all_run d.stmts ≤ STATEMENT_LIMIT

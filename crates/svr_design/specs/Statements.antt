@@ -1,4 +1,5 @@
 -- What stands in the statements of a design: names of what may stand there, an object made earlier for each that is used, and nothing that is refused (IEEE 1800-2017, clauses 8.7, 10, 12 and 18).
+use Rattle.svr_limits.specs.declared.limit.TheConstants.{ELEMENT_LIMIT}
 use Rattle.std.specs.Prelude.{◌≡◌, ◌≤◌, ◌<◌, ◌+◌, ◌*◌, ◌^◌, ◌⊎◌, ◌||◌, ℕ, ℤ, pos, nat_eq, Bool, true, false, List, [], ◌∷◌, ◌++◌, length, Option, Some, None, ⊤, slice_get}
 use Rattle.std.specs.List.{list_any}
 use Rattle.svr_typed.specs.declared.ArrayKind.{ArrayKind}
@@ -192,7 +193,7 @@ module _ (d : DesignTerm) where
   abbrev pub PatternFits : ℕ → ℕ → ArrayKind → Type 0
   PatternFits n m array.Scalar = ⊥
   PatternFits n m (array.Fixed k) = (n ≡ k) × (m ≡ 1)
-  PatternFits n m array.Dynamic = n ≤ 2048
+  PatternFits n m array.Dynamic = n ≤ ELEMENT_LIMIT
 
   abbrev pub IsPattern : ℕ → Option Prop → Type 0
   IsPattern n None = ⊥
@@ -225,7 +226,7 @@ module _ (d : DesignTerm) where
     StmtStands (stmt.make o) = IsObject d o
     StmtStands (stmt.set_var v e) = IsNumber (slice_get d.vars v) × Value e
     StmtStands (stmt.set_prop o p i e) = IsObject d o × IsPlace (slice_get (object_props d o) p) i × Value e
-    StmtStands (stmt.resize o p n) = IsObject d o × IsDynamic (slice_get (object_props d o) p) × (n ≤ 2048)
+    StmtStands (stmt.resize o p n) = IsObject d o × IsDynamic (slice_get (object_props d o) p) × (n ≤ ELEMENT_LIMIT)
     StmtStands (stmt.pattern o p es) = IsObject d o × IsPattern (many es) (slice_get (object_props d o) p) × Values es
     StmtStands (stmt.rand_mode o p e) = IsObject d o × IsBelow p (length (object_props d o)) × Value e
     StmtStands (stmt.constraint_mode o b e) = IsObject d o × IsBelow b (length (object_class d o).blocks) × Value e

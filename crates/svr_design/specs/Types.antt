@@ -1,4 +1,5 @@
 -- The types, properties and variables of a design, and where a name may stand for each.
+use Rattle.svr_limits.specs.declared.limit.TheConstants.{MEMBER_LIMIT, ELEMENT_LIMIT}
 use Rattle.std.specs.Prelude.{◌≡◌, ◌≤◌, ◌<◌, ◌+◌, ◌*◌, ◌^◌, ℕ, ℤ, pos, negsuc, nat_eq, Bool, true, false, List, [], ◌∷◌, length, map, Option, Some, None, ⊤, slice_get, bytes_eq}
 use Rattle.std.specs.List.{list_any}
 use Rattle.svr_operator.specs.declared.Rand.{Rand}
@@ -28,7 +29,7 @@ AllBelow n (x ∷ xs) = (x < n) × AllBelow n xs
 pub record IsEnum (e : EnumType) : Type 0 where
   pub plain : e.base.members ≡ None
   pub some : 1 ≤ length e.members
-  pub few : length e.members ≤ 1024
+  pub few : length e.members ≤ MEMBER_LIMIT
   pub low : 1 ≤ e.base.width
   pub high : e.base.width ≤ 64
   pub fit : AllBelow (2 ^ e.base.width) (map (λ (m : EnumMember). m.value) e.members)
@@ -60,7 +61,7 @@ is_array array.Dynamic = true
 -- a fixed array has 1 to 2,048 elements, over both of its dimensions
 abbrev pub HasSize : ArrayKind → Type 0
 HasSize array.Scalar = ⊤
-HasSize (array.Fixed n) = (1 ≤ n) × (n ≤ 2048)
+HasSize (array.Fixed n) = (1 ≤ n) × (n ≤ ELEMENT_LIMIT)
 HasSize array.Dynamic = ⊤
 
 pub record Divides (m n : ℕ) : Type 0 where

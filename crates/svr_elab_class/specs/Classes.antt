@@ -15,7 +15,7 @@ use Rattle.svr_elab_names.specs.declared.Global.{Global}
 use Rattle.svr_elab_names.specs.declared.Global.TheVariants as global
 use Rattle.svr_elab_names.specs.declared.Region.TheVariants as region
 use Rattle.svr_elab_names.specs.Names.{Space, GlobalName, PropName, ClassName, is_same, is_name, is_array, global_named, class_props}
-use Rattle.svr_elab_decl.specs.declared.limit.TheConstants.{ARRAY_LIMIT}
+use Rattle.svr_limits.specs.declared.limit.TheConstants.{ARRAY_LIMIT}
 use Rattle.svr_elab_type.specs.Types.{GlobalsElab, and_name, with_global, double}
 use Rattle.svr_elab_decl.specs.Properties.{Used, UsedElab, DimsElab, Before, used_kind, is_wide_cycle, declared_as, data_type, dims_of, first_number, first_at, property_faults}
 

@@ -19,13 +19,13 @@ use crate::head::{ClassHead, ClassPart, is_among, is_inherited, with_name};
 use indexmap::IndexMap;
 use std::alloc::Global;
 use svr_elab_decl::{
-    ARRAY_LIMIT, Before, DimsPart, InitialPart, Used, UsedPart, data_type, dims_of, initial_value,
+    Before, DimsPart, InitialPart, Used, UsedPart, data_type, dims_of, initial_value,
     is_wide_cycle, property_fault, property_of,
 };
 use svr_elab_expr::{beside, both};
 use svr_elab_fault::{Fault, earlier, when};
 use svr_elab_names::{Dims, PropEntry, Property};
-use svr_limits::PROPERTY_LIMIT;
+use svr_limits::{ARRAY_LIMIT, PROPERTY_LIMIT};
 use svr_operator::Rand;
 use svr_refusal::Refusal;
 use svr_tree::{ClassItem, Declarator, PropertyDecl};

@@ -22,7 +22,7 @@ use Rattle.svr_elab_names.specs.declared.Global.TheVariants as global
 use Rattle.svr_elab_names.specs.Names.{Space, is_array}
 use Rattle.svr_elab_part.specs.Elab.{Elab, value}
 use Rattle.svr_elab_part.specs.Shapes.{is_randc}
-use Rattle.svr_elab_decl.specs.declared.limit.TheConstants.{ARRAY_LIMIT}
+use Rattle.svr_limits.specs.declared.limit.TheConstants.{ARRAY_LIMIT}
 use Rattle.svr_elab_type.specs.Types.{Constant, TypeElab, constant_at, integer_type, global_at, elements, is_below, is_other, is_not}
 
 -- a type as it is used: of numbers, unresolved, or a class

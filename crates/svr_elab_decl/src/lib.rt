@@ -5,12 +5,10 @@
 
 mod dims;
 mod initial;
-mod limit;
 mod property;
 mod used;
 
 pub use dims::{DimsPart, dims_of};
 pub use initial::{InitialPart, initial_value};
-pub use limit::ARRAY_LIMIT;
 pub use property::{Before, property_fault, property_of};
 pub use used::{Used, UsedPart, data_type, is_wide_cycle};

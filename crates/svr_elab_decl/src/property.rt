@@ -6,11 +6,10 @@ ghost use Rattle.svr_elab_part.specs.Shapes as shapes;
 ghost use Rattle.svr_elab_decl.specs.Properties as spec;
 ghost use Rattle.svr_elab_decl.specs.Seen.{before_of, used_of};
 
-use crate::limit::ARRAY_LIMIT;
 use crate::used::Used;
 use svr_elab_fault::{Fault, earlier, when};
 use svr_elab_names::{Dims, Property, Vector};
-use svr_limits::{ELEMENT_LIMIT, PROPERTY_LIMIT};
+use svr_limits::{ARRAY_LIMIT, ELEMENT_LIMIT, PROPERTY_LIMIT};
 use svr_operator::Rand;
 use svr_refusal::Refusal;
 

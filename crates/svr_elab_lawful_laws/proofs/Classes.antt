@@ -31,7 +31,7 @@ use Rattle.svr_elab_part.specs.Shapes.{is_randc}
 use Rattle.svr_elab_part.proofs.Valued.{none_left, none_right, not_when}
 use Rattle.svr_elab_type.specs.Types as types
 use Rattle.svr_elab_type.specs.Types.{GlobalsElab, declaring, and_name}
-use Rattle.svr_elab_decl.specs.declared.limit.TheConstants.{ARRAY_LIMIT}
+use Rattle.svr_limits.specs.declared.limit.TheConstants.{ARRAY_LIMIT}
 use Rattle.svr_elab_decl.specs.Properties as property_spec
 use Rattle.svr_elab_decl.specs.Properties.{Used, UsedElab, DimsElab, Before}
 use Rattle.svr_elab_class.specs.Classes as spec

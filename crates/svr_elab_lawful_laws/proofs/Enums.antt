@@ -22,7 +22,7 @@ use Rattle.svr_elab_names.specs.declared.Global.TheVariants as global
 use Rattle.svr_elab_names.specs.Names.{Space, GlobalName, is_name}
 use Rattle.svr_elab_part.specs.Fits.{Each}
 use Rattle.svr_elab_part.proofs.Valued.{none_left, none_right, not_when}
-use Rattle.svr_elab_type.specs.declared.limit.TheConstants.{MEMBER_LIMIT}
+use Rattle.svr_limits.specs.declared.limit.TheConstants.{MEMBER_LIMIT}
 use Rattle.svr_elab_type.specs.Types as spec
 use Rattle.svr_elab_type.specs.Types.{Constant, EnumElab}
 use Rattle.svr_elab_expr_laws.specs.Known.{IsKnown, GlobalKnown}

@@ -2,13 +2,13 @@
 
 ghost use Rattle.std.specs.Prelude.{◌≡◌, true};
 ghost use Rattle.std.specs.List.{list_all};
-ghost use Rattle.svr_elab_order.specs.Order.{ComesByChains, ComesByLoop};
+ghost use Rattle.svr_elab_order.specs.Order.{ComesByItems, ComesByLoop};
 ghost use Rattle.svr_elab_order.specs.Cycles.{KeepsTheFirst};
 ghost use Rattle.svr_elab_order.specs.Examples as example;
 
 /// A property comes before another one exactly where a chain of items leads from it to the other, and items order one before itself where a chain leads back to it.
-pub fn comes_by_chains()
-    ensures chain { ComesByChains }
+pub fn comes_by_items()
+    ensures chain { ComesByItems }
     ensures cycle { ComesByLoop }
 {}
 

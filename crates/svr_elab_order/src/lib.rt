@@ -11,8 +11,6 @@ mod refuse;
 mod search;
 mod settle;
 
-pub use law::{
-    chains_are_as_worked_out, comes_by_chains, keeps_the_first, loops_are_as_worked_out,
-};
+pub use law::{chains_are_as_worked_out, comes_by_items, keeps_the_first, loops_are_as_worked_out};
 pub use order::Order;
 pub use refuse::cycle_fault;

@@ -12,7 +12,7 @@ use Rattle.svr_elab_fault.specs.Refusals.{first_one, when, earlier}
 use Rattle.svr_elab_names.specs.declared.Vector.{Vector}
 use Rattle.svr_elab_names.specs.declared.Global.TheVariants as global
 use Rattle.svr_elab_names.specs.Names.{Space, GlobalName, ClassName}
-use Rattle.svr_elab_type.specs.declared.limit.TheConstants.{MEMBER_LIMIT}
+use Rattle.svr_limits.specs.declared.limit.TheConstants.{MEMBER_LIMIT}
 use Rattle.svr_elab_type.specs.Types as spec
 use Rattle.svr_elab_type.specs.Types.{Constant, TypeElab, EnumElab, GlobalsElab, declaring}
 

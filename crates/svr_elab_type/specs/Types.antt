@@ -21,7 +21,7 @@ use Rattle.svr_elab_names.specs.declared.Global.TheVariants as global
 use Rattle.svr_elab_names.specs.declared.Region.TheVariants as region
 use Rattle.svr_elab_names.specs.Names.{Space, GlobalName, ClassName, is_name, global_named}
 use Rattle.svr_elab_part.specs.Elab.{Elab, value, known}
-use Rattle.svr_elab_type.specs.declared.limit.TheConstants.{MEMBER_LIMIT}
+use Rattle.svr_limits.specs.declared.limit.TheConstants.{MEMBER_LIMIT}
 use Rattle.svr_elab_part.specs.Shapes.{is_less, is_below_zero, count_of, both_known}
 
 -- a number that is to be constant, with its first token

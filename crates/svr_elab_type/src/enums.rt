@@ -15,13 +15,13 @@ ghost use Rattle.svr_elab_type.specs.Seen.{AreEmpty, constant_part, enum_part};
 
 use crate::constant::{Constant, constant_at};
 use crate::global::{NoNames, and_name, declaring, double};
-use crate::limit::MEMBER_LIMIT;
 use indexmap::{IndexMap, IndexSet};
 use sqlite_items::Items;
 use std::alloc::Global as Heap;
 use svr_elab_expr::{beside, both};
 use svr_elab_fault::{Fault, earlier, when};
 use svr_elab_names::{ClassNames, Global, NameSpace, Vector};
+use svr_limits::MEMBER_LIMIT;
 use svr_refusal::Refusal;
 use svr_token::Names;
 use svr_tree::{Expr, MemberDecl};

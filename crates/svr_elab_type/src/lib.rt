@@ -7,13 +7,11 @@ mod constant;
 mod enums;
 pub mod examples;
 mod global;
-mod limit;
 mod typedef;
 mod types;
 
 pub use constant::{Constant, constant_at, elements, is_below, is_other};
 pub use enums::{EnumPart, enum_members};
 pub use global::{NoNames, and_name, declaring, double};
-pub use limit::MEMBER_LIMIT;
 pub use typedef::{Globals, type_decl};
 pub use types::{TypePart, base_type, integer_type};

@@ -3,17 +3,17 @@ use Rattle.std.proofs.Common.{◌≡◌, ◌<◌, ℕ, suc, ◌+◌, ◌-◌, Bo
 use Rattle.std.proofs.lemmas.List.{map-append}
 use Rattle.svr_typed.specs.ExprTerm.{ExprTerm, typed, element}
 use Rattle.svr_eval.specs.Reading.{Reading}
-use Rattle.svr_expand.specs.declared.pairs.Operand.{Operand}
-use Rattle.svr_expand.specs.declared.pairs.Operand.TheVariants as operand
+use Rattle.svr_expand.specs.declared.pairs.UniqueMember.{UniqueMember}
+use Rattle.svr_expand.specs.declared.pairs.UniqueMember.TheVariants as operand
 use Rattle.svr_frame.specs.Closed.{index_number}
 use Rattle.svr_frame.specs.Occurrences.{elements_from}
-use Rattle.svr_expand.specs.Operands.{operand_expr, operand_exprs, OperandIsReady, AllReady}
+use Rattle.svr_expand.specs.Operands.{operand_expr, operand_exprs, MemberIsReady, AllReady}
 
-pub ready_more : (a : Reading) (depth : ℕ) (xs : List Operand) (x : Operand) → AllReady a depth xs → OperandIsReady a depth x → AllReady a depth (xs ++ x ∷ [])
+pub ready_more : (a : Reading) (depth : ℕ) (xs : List UniqueMember) (x : UniqueMember) → AllReady a depth xs → MemberIsReady a depth x → AllReady a depth (xs ++ x ∷ [])
 ready_more a depth [] x h k = (k, tt)
 ready_more a depth (y ∷ xs) x h k = (h.0, ready_more a depth xs x h.1 k)
 
-pub more_elements : (p w : ℕ) (s : Bool) (i n : ℕ) (out : List Operand) → i < n
+pub more_elements : (p w : ℕ) (s : Bool) (i n : ℕ) (out : List UniqueMember) → i < n
     → operand_exprs (out ++ operand.Element p i w s ∷ []) ++ elements_from p w s (i + 1) (n - (i + 1)) ≡ operand_exprs out ++ elements_from p w s i (n - i)
 more_elements p w s i n out less =
     let left : n - i ≡ suc (n - (i + 1)) = omega (arith, less) in

@@ -49,8 +49,8 @@ over_of = fold-Around (List ℕ) over_step
 abbrev pub place_of : Around → List ℕ → Place
 place_of x env = record { guards = guards_of x; env = env; over = over_of x }
 
-abbrev pub negated : ExprTerm → ExprTerm
-negated e = typed 1 false (unary un.LogicalNot e)
+abbrev pub negation_of : ExprTerm → ExprTerm
+negation_of e = typed 1 false (unary un.LogicalNot e)
 
 abbrev pub joined : BinOp → ExprTerm → ExprTerm → ExprTerm
 joined op x y = typed 1 false (binary op x y)

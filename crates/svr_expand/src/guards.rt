@@ -3,7 +3,7 @@
 ghost use Rattle.std.specs.Prelude.{◌≡◌, Option, Some, IfOk, option_map};
 ghost use Rattle.svr_typed.specs.ExprTerm.{ExprTerm, expr_term};
 ghost use Rattle.svr_frame.specs.Occurrences as spec;
-ghost use Rattle.svr_expand.specs.Expanded.{guards_of, negated, joined};
+ghost use Rattle.svr_expand.specs.Expanded.{guards_of, negation_of, joined};
 
 use crate::around::Around;
 use crate::held::let_go;
@@ -15,7 +15,7 @@ use svr_typed::{NoMemory, TExpr, TNode};
 
 /// `!e`
 fn not(alloc: Global, e: TExpr) -> Result<TExpr, NoMemory>
-    ensures { IfOk result (λ r. expr_term r ≡ negated (expr_term e)) }
+    ensures { IfOk result (λ r. expr_term r ≡ negation_of (expr_term e)) }
 {
     Ok(TExpr::new(1, false, TNode::unary(alloc, UnOp::LogicalNot, e)?))
 }

@@ -9,7 +9,7 @@ ghost use Rattle.svr_frame.specs.Occurrences as spec;
 ghost use Rattle.svr_frame.specs.Reads.{of_element};
 ghost use Rattle.svr_mention.specs.Mentioned.{mention_in, reads_in, shape_in};
 ghost use Rattle.svr_expand.specs.Expanded.{guards_of, place_of, GuardsAreReady, findings, found_at, found_of, ExprIsReady, ExprsAreReady};
-ghost use Rattle.svr_expand.specs.Operands.{operand_expr, operand_exprs, OperandIsReady, AllReady};
+ghost use Rattle.svr_expand.specs.Operands.{operand_expr, operand_exprs, MemberIsReady, AllReady};
 
 use crate::around::Around;
 use crate::finding::Finding;
@@ -24,9 +24,9 @@ use svr_mention::{Mention, Setting, add_mentions, counts, element_mention};
 use svr_operator::BinOp;
 use svr_typed::{NoMemory, TExpr, TNode};
 
-/// An expression, or an element of an array.
+/// A member of a `unique` list: an expression, or an element of an array (IEEE 1800-2017, 18.5.5).
 #[derive(Clone, Copy)]
-pub(crate) enum Operand<'a> {
+pub(crate) enum UniqueMember<'a> {
     Whole(&'a TExpr),
     Element {
         prop: u32,
@@ -37,12 +37,12 @@ pub(crate) enum Operand<'a> {
 }
 
 /// The operand as a closed expression.
-fn closed_operand(alloc: Global, x: &Operand<'_>, env: &Env) -> Result<TExpr, NoMemory>
+fn closed_operand(alloc: Global, x: &UniqueMember<'_>, env: &Env) -> Result<TExpr, NoMemory>
     ensures { IfOk result (λ r. expr_term r ≡ closing.closed env.now (operand_expr x.now)) }
 {
     match x {
-        Operand::Whole(e) => closed(alloc, e, env),
-        Operand::Element {
+        UniqueMember::Whole(e) => closed(alloc, e, env),
+        UniqueMember::Element {
             prop,
             at,
             width,
@@ -55,7 +55,12 @@ fn closed_operand(alloc: Global, x: &Operand<'_>, env: &Env) -> Result<TExpr, No
 }
 
 /// `x != y`, closed.
-fn unequal(alloc: Global, x: &Operand<'_>, y: &Operand<'_>, env: &Env) -> Result<TExpr, NoMemory>
+fn unequal(
+    alloc: Global,
+    x: &UniqueMember<'_>,
+    y: &UniqueMember<'_>,
+    env: &Env,
+) -> Result<TExpr, NoMemory>
     ensures { IfOk result (λ r. expr_term r ≡ closing.closed env.now (spec.unequal (operand_expr x.now) (operand_expr y.now))) }
 {
     let left = closed_operand(alloc, x, env);
@@ -77,17 +82,17 @@ fn numbered_mention(prop: u32, at: u32, env: &Env, set: &Setting<'_>) -> Mention
 /// Adds what the operand mentions.
 fn add_operand_mentions(
     alloc: Global,
-    x: &Operand<'_>,
+    x: &UniqueMember<'_>,
     env: &Env,
     set: &Setting<'_>,
     out: &mut Items<Mention>,
 ) -> Result<(), NoMemory>
-    requires { OperandIsReady (reading_of set.now.state.now) (length env.now) x.now }
+    requires { MemberIsReady (reading_of set.now.state.now) (length env.now) x.now }
     ensures { OnOk result (out.new ≡ out.old ++ map (mention_in set.now) (reads_in set.now env.now (operand_expr x.now))) }
 {
     match x {
-        Operand::Whole(e) => add_mentions(alloc, e, env, set, out),
-        Operand::Element { prop, at, .. } => {
+        UniqueMember::Whole(e) => add_mentions(alloc, e, env, set, out),
+        UniqueMember::Element { prop, at, .. } => {
             out.push(numbered_mention(*prop, *at, env, set))?;
             Ok(())
         }
@@ -98,15 +103,15 @@ fn add_operand_mentions(
 #[tactic(auto, using(svr_mention::proofs::Appended::then))]
 fn add_pair(
     alloc: Global,
-    x: &Operand<'_>,
-    y: &Operand<'_>,
+    x: &UniqueMember<'_>,
+    y: &UniqueMember<'_>,
     at: &Around<'_>,
     env: &Env,
     set: &Setting<'_>,
     out: &mut Items<Finding>,
 ) -> Result<(), NoMemory>
-    requires left { OperandIsReady (reading_of set.now.state.now) (length env.now) x.now }
-    requires right { OperandIsReady (reading_of set.now.state.now) (length env.now) y.now }
+    requires left { MemberIsReady (reading_of set.now.state.now) (length env.now) x.now }
+    requires right { MemberIsReady (reading_of set.now.state.now) (length env.now) y.now }
     requires place_ready { GuardsAreReady (reading_of set.now.state.now) (guards_of at.now) }
     ensures { OnOk result (findings out.new ≡ findings out.old ++ found_at set.now (place_of at.now env.now) false (spec.stated (spec.unequal (operand_expr x.now) (operand_expr y.now)))) }
 {
@@ -131,14 +136,14 @@ fn add_pair(
 #[tactic(auto, using(crate::proofs::Joined::found_after))]
 fn add_against(
     alloc: Global,
-    x: &Operand<'_>,
-    others: &[Operand<'_>],
+    x: &UniqueMember<'_>,
+    others: &[UniqueMember<'_>],
     at: &Around<'_>,
     env: &Env,
     set: &Setting<'_>,
     out: &mut Items<Finding>,
 ) -> Result<(), NoMemory>
-    requires left { OperandIsReady (reading_of set.now.state.now) (length env.now) x.now }
+    requires left { MemberIsReady (reading_of set.now.state.now) (length env.now) x.now }
     requires right { AllReady (reading_of set.now.state.now) (length env.now) others.now }
     requires place_ready { GuardsAreReady (reading_of set.now.state.now) (guards_of at.now) }
     ensures { OnOk result (findings out.new ≡ findings out.old ++ found_of set.now (place_of at.now env.now) (map (spec.unequal (operand_expr x.now)) (operand_exprs others.now))) }
@@ -153,7 +158,7 @@ fn add_against(
 #[tactic(auto, using(crate::proofs::Joined::found_pairs))]
 fn add_all_pairs(
     alloc: Global,
-    operands: &[Operand<'_>],
+    operands: &[UniqueMember<'_>],
     at: &Around<'_>,
     env: &Env,
     set: &Setting<'_>,
@@ -202,13 +207,13 @@ fn add_elements(
     width: u8,
     signed: bool,
     set: &Setting<'_>,
-    out: &mut Items<Operand<'_>>,
+    out: &mut Items<UniqueMember<'_>>,
 ) -> Result<(), NoMemory>
     ensures ready { OnOk result ((a : Reading) (depth : ℕ) → AllReady a depth out.old → AllReady a depth out.new) }
     ensures members { OnOk result (operand_exprs out.new ≡ operand_exprs out.old ++ spec.elements_from prop width signed 0 ((shape_in set.now).size prop)) }
 {
     for at in 0..size_at(set.sizes, prop) {
-        out.push(Operand::Element {
+        out.push(UniqueMember::Element {
             prop,
             at,
             width,
@@ -223,7 +228,7 @@ fn add_elements(
 fn add_operands<'a>(
     member: &'a TExpr,
     set: &Setting<'_>,
-    out: &mut Items<Operand<'a>>,
+    out: &mut Items<UniqueMember<'a>>,
 ) -> Result<(), NoMemory>
     ensures ready { OnOk result ((a : Reading) (depth : ℕ) → ExprIsReady a depth (expr_term member.now) → AllReady a depth out.old → AllReady a depth out.new) }
     ensures members { OnOk result (operand_exprs out.new ≡ operand_exprs out.old ++ spec.member_exprs (shape_in set.now) (expr_term member.now) (property_of (expr_term member.now))) }
@@ -234,7 +239,7 @@ fn add_operands<'a>(
             return Ok(());
         }
     }
-    out.push(Operand::Whole(member))?;
+    out.push(UniqueMember::Whole(member))?;
     Ok(())
 }
 

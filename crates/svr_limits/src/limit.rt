@@ -12,6 +12,12 @@ pub const PROPERTY_LIMIT: u32 = 1024;
 /// The most elements of an array.
 pub const ELEMENT_LIMIT: u32 = 2048;
 
+/// The most arrays among the properties of a class, with those that it inherits.
+pub const ARRAY_LIMIT: usize = 32;
+
+/// The most members of an enum.
+pub const MEMBER_LIMIT: usize = 1024;
+
 /// How many loops stand around a place at the most, those of `foreach` and of array reductions together.
 pub const LOOP_LIMIT: usize = 256;
 

@@ -1,4 +1,5 @@
 -- How the phases of cyclic values and of sizes go, and how each ends.
+use Rattle.svr_limits.specs.declared.limit.TheConstants.{WEIGHT_LIMIT}
 use Rattle.std.specs.Prelude.{◌≡◌, ℕ, ◌≤◌, true, false, cond, List, [], ◌∷◌, ◌++◌, length, filter, slice_index_or}
 use Rattle.svr_chain.specs.Views.{RefutationView}
 use Rattle.svr_frame.specs.declared.part.Part.{Part}
@@ -27,7 +28,7 @@ pub record Call : Type 0 where
 
 -- no phase may weigh more
 abbrev pub weight_limit : ℕ
-weight_limit = 1000000
+weight_limit = WEIGHT_LIMIT
 
 -- the random cyclic properties in flat order
 abbrev pub cyclic_props : FrameTerm → List ℕ

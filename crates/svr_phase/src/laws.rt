@@ -1,5 +1,6 @@
 // Laws of the definitions that layers above cite: each function has an empty body, and its contract is the law.
 
+ghost use Rattle.svr_limits.specs.declared.limit.TheConstants.{ELEMENT_LIMIT};
 ghost use Rattle.std.specs.Prelude.{◌≡◌, ◌≤◌, ℕ, true, List, [], map, length, slice_index_or};
 ghost use Rattle.std.specs.List.{list_all};
 ghost use Rattle.svr_frame.specs.Frame.{frame_term};
@@ -38,7 +39,7 @@ pub fn chosen_values_are_of_their_domains()
 
 /// The sizes at which a call looks for values fit its frame: one for each property, none above the limit, and those that the call does not choose as they were.
 pub fn sizes_of_a_call_fit()
-    ensures { (c : Call) (choices : List Choice) (sizes : List ℕ) → IsSound c.frame → c.cap ≤ 2048 → HasSizes c choices sizes → SizesFit c.frame sizes }
+    ensures { (c : Call) (choices : List Choice) (sizes : List ℕ) → IsSound c.frame → c.cap ≤ ELEMENT_LIMIT → HasSizes c choices sizes → SizesFit c.frame sizes }
 {}
 
 /// The order in which values are tried, used values, the bits of sizes and fixed values as literals are as they were worked out by hand.

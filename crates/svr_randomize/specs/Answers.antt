@@ -1,4 +1,5 @@
 -- What a call answers and changes, whatever the world around its object.
+use Rattle.svr_limits.specs.declared.limit.TheConstants.{ELEMENT_LIMIT}
 use Rattle.std.specs.Prelude.{◌≡◌, ◌≤◌, true, ℕ, List, [], Option, Some, None, ⊤, map}
 use Rattle.svr_typed.specs.ExprTerm.{expr_term}
 use Rattle.svr_typed.specs.ClassTerm.{FlatTerm}
@@ -48,13 +49,13 @@ pub record AreItems (f : FrameTerm) (sizes : List ℕ) (x : Expansion) : Type 0 
 -- that comes to its values at these sizes and prefers these
 abbrev pub IsAnswerAt : FrameTerm → List ℕ → Chosen → ℕ → Reading → Answer → Type 0
 IsAnswerAt f sizes chosen budget wanted r =
-    (used : List (List ℕ)) (words : ℕ → ℕ) (cap : ℕ) → cap ≤ 2048 → (is : IsChosen (call_in f used words budget cap) chosen) → wanted ≡ preferred (call_in f used words budget cap) is.choices sizes
+    (used : List (List ℕ)) (words : ℕ → ℕ) (cap : ℕ) → cap ≤ ELEMENT_LIMIT → (is : IsChosen (call_in f used words budget cap) chosen) → wanted ≡ preferred (call_in f used words budget cap) is.choices sizes
     → ReachesValues (call_in f used words budget cap) is.choices sizes → IsAnswer (call_in f used words budget cap) r
 
 -- and that asks for them
 abbrev pub IsAnswerBehind : FrameTerm → List ℕ → Chosen → ℕ → Reading → Answer → Type 0
 IsAnswerBehind f sizes chosen budget wanted r =
-    (used : List (List ℕ)) (words : ℕ → ℕ) (cap : ℕ) → cap ≤ 2048 → (is : IsChosen (call_in f used words budget cap) chosen) → wanted ≡ preferred (call_in f used words budget cap) is.choices sizes
+    (used : List (List ℕ)) (words : ℕ → ℕ) (cap : ℕ) → cap ≤ ELEMENT_LIMIT → (is : IsChosen (call_in f used words budget cap) chosen) → wanted ≡ preferred (call_in f used words budget cap) is.choices sizes
     → AsksValues (call_in f used words budget cap) is.choices sizes → IsAnswer (call_in f used words budget cap) r
 
 -- that comes to its values at these sizes

@@ -1,5 +1,6 @@
 // The phases of a call, in their order: cyclic values, sizes, all values.
 
+ghost use Rattle.svr_limits.specs.declared.limit.TheConstants.{ELEMENT_LIMIT};
 ghost use Rattle.std.specs.Prelude.{◌≡◌, ◌≤◌, true, length, IfOk};
 ghost use Rattle.svr_frame.specs.declared.part.Part.TheVariants.{Randc};
 ghost use Rattle.svr_frame.specs.Frame.{frame_term};
@@ -17,13 +18,11 @@ use std::alloc::Global;
 use svr_call::Query;
 use svr_cyclic::{Chosen, CyclicEnd, choose_randc};
 use svr_frame::{Frame, Part};
+use svr_limits::WEIGHT_LIMIT;
 use svr_phase::Options;
 use svr_sized::{SizesEnd, choose_sizes};
 use svr_weight::weight;
 use svr_world::World;
-
-/// No phase may weigh more.
-const WEIGHT_LIMIT: u128 = 1_000_000;
 
 /// Whether the call chooses some size.
 fn chooses_sizes(frame: &Frame) -> bool
@@ -47,7 +46,7 @@ fn light_answer(
     requires few { length chosen.encodings ≤ 1 }
     requires used { UsedFit (frame_term frame.now).class chosen.used }
     requires budget { 1 ≤ opts.budget }
-    requires cap { opts.size_cap ≤ 2048 }
+    requires cap { opts.size_cap ≤ ELEMENT_LIMIT }
     ensures answer { IfOk result (λ r. IsAnswerSized (frame_term frame.now) sizes.now chosen number opts r) }
     ensures fits { IfOk result (λ r. FitsIfChanged (frame_term frame.now).class r.change) }
 {
@@ -72,7 +71,7 @@ fn open_answer(
     requires used { UsedFit (frame_term frame.now).class chosen.used }
     requires budget { 1 ≤ opts.budget }
     requires some { 1 ≤ opts.size_cap }
-    requires cap { opts.size_cap ≤ 2048 }
+    requires cap { opts.size_cap ≤ ELEMENT_LIMIT }
     ensures answer { IfOk result (λ r. IsAnswerLight (frame_term frame.now) chosen number opts r) }
     ensures fits { IfOk result (λ r. FitsIfChanged (frame_term frame.now).class r.change) }
 {
@@ -111,7 +110,7 @@ fn sized_answer(
     requires used { UsedFit (frame_term frame.now).class chosen.used }
     requires budget { 1 ≤ opts.budget }
     requires some { 1 ≤ opts.size_cap }
-    requires cap { opts.size_cap ≤ 2048 }
+    requires cap { opts.size_cap ≤ ELEMENT_LIMIT }
     ensures answer { IfOk result (λ r. IsAnswerOpen (frame_term frame.now) chosen number opts r) }
     ensures fits { IfOk result (λ r. FitsIfChanged (frame_term frame.now).class r.change) }
 {
@@ -138,7 +137,7 @@ pub fn answer_in(
     requires sound { IsSound (frame_term frame.now) }
     requires budget { 1 ≤ opts.budget }
     requires some { 1 ≤ opts.size_cap }
-    requires cap { opts.size_cap ≤ 2048 }
+    requires cap { opts.size_cap ≤ ELEMENT_LIMIT }
     ensures answer { IfOk result (IsAnswer (call_of world.now object (frame_term frame.now) number opts)) }
     ensures fits { IfOk result (λ r. FitsIfChanged (frame_term frame.now).class r.change) }
 {

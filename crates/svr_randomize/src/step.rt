@@ -1,5 +1,6 @@
 // One call, from world to world.
 
+ghost use Rattle.svr_limits.specs.declared.limit.TheConstants.{ELEMENT_LIMIT};
 ghost use Rattle.std.specs.Prelude.{◌≡◌, ◌≤◌, ℕ, OnErr, OnOk, IfOk};
 ghost use Rattle.svr_world.specs.World.{IsMade, object_of};
 ghost use Rattle.svr_world.specs.Fits.{FitsClass};
@@ -42,7 +43,7 @@ pub fn randomize(
     requires sound { IsSound (frame_term frame.now) }
     requires budget { 1 ≤ opts.budget }
     requires some { 1 ≤ opts.size_cap }
-    requires cap { opts.size_cap ≤ 2048 }
+    requires cap { opts.size_cap ≤ ELEMENT_LIMIT }
     requires made { IsMade world.old object }
     ensures step { IfOk result (λ outcome. CallStep world.old object (frame_term frame.now) number opts outcome world.new) }
     // A question is given up only over many bits, and there is no more than one encoding for each phase.

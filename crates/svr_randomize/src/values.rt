@@ -1,5 +1,6 @@
 // The last phase of a call: its values.
 
+ghost use Rattle.svr_limits.specs.declared.limit.TheConstants.{ELEMENT_LIMIT};
 ghost use Rattle.std.specs.Prelude.{◌≡◌, ◌≤◌, ◌+◌, ◌++◌, [], Some, ℕ, List, map, length, IfOk};
 ghost use Rattle.std.specs.List.{range_with_len};
 ghost use Rattle.svr_limits.specs.declared.limit.TheConstants.{PROPERTY_LIMIT};
@@ -120,7 +121,7 @@ pub(crate) fn values_answer(
     requires few { length chosen.encodings ≤ 1 }
     requires used { UsedFit (frame_term frame.now).class chosen.used }
     requires budget { 1 ≤ opts.budget }
-    requires cap { opts.size_cap ≤ 2048 }
+    requires cap { opts.size_cap ≤ ELEMENT_LIMIT }
     ensures answer { IfOk result (λ r. IsAnswerOf (frame_term frame.now) sizes.now chosen number opts r) }
     ensures fits { IfOk result (λ r. FitsIfChanged (frame_term frame.now).class r.change) }
 {

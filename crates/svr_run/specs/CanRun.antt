@@ -1,4 +1,5 @@
 -- Scripts that can run: whatever a run has come to, its next statement stands.
+use Rattle.svr_limits.specs.declared.limit.TheConstants.{ELEMENT_LIMIT}
 use Rattle.std.specs.Prelude.{◌≡◌, ℕ, ◌<◌, ◌≤◌, ◌^◌, Bool, false, true, List, ◌∷◌, length}
 use Rattle.svr_typed.specs.StmtTerm.{StmtTerm, make, set_var, set_prop, resize, pattern, rand_mode, constraint_mode, call, repeat, list, DesignTerm}
 use Rattle.svr_world.specs.World.{WorldTerm, IsMade, object_of}
@@ -30,7 +31,7 @@ is_plain (list ss) = false
 
 -- a budget of some step, and a greatest size that some array may have and none may pass
 abbrev pub AreAllowed : Options → Type 0
-AreAllowed opts = (1 ≤ opts.budget) × (1 ≤ opts.size_cap) × (opts.size_cap ≤ 2048)
+AreAllowed opts = (1 ≤ opts.budget) × (1 ≤ opts.size_cap) × (opts.size_cap ≤ ELEMENT_LIMIT)
 
 pub record CanRun (d : DesignTerm) (opts : Options) : Type 0 where
   pub stands : (es : List Event) (t : State) (so_far : IsSoFar d opts es t) (x : StmtTerm) (rest : List StmtTerm) → so_far.left ≡ x ∷ rest → t.limited ≡ false → CanExecute d t.world x

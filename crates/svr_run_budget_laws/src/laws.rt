@@ -1,5 +1,6 @@
 // Each function has an empty body, and its contract is the law.
 
+ghost use Rattle.svr_limits.specs.declared.limit.TheConstants.{ELEMENT_LIMIT};
 ghost use Rattle.std.specs.Prelude.{◌≡◌, ◌≤◌, Bool, false, List, []};
 ghost use Rattle.svr_typed.specs.StmtTerm.{StmtTerm, DesignTerm};
 ghost use Rattle.svr_phase.specs.declared.options.Options.{Options};
@@ -19,6 +20,6 @@ pub fn a_run_gives_up_over_many_bits()
 pub fn a_run_of_small_questions_answers_all()
     ensures none { (d : DesignTerm) (opts : Options) (es : List Event) (t : State) → CallsAskLittle d opts → IsSoFar d opts es t → (counts_of es).given_up ≡ 0 }
     ensures journal { (d : DesignTerm) (opts : Options) (es : List Event) (t : State) → CallsAskLittle d opts → IsSoFar d opts es t → HaveConflicts false opts.budget es → journal_of es ≡ [] }
-    ensures conflicts { (d : DesignTerm) (opts : Options) (wanted : Bool) (es : List Event) (t : State) → CallsAskLittle d opts → CallsAreSound d opts → opts.size_cap ≤ 2048 → IsSoFar d opts es t → HaveConflicts wanted opts.budget es → journal_of es ≡ [] }
+    ensures conflicts { (d : DesignTerm) (opts : Options) (wanted : Bool) (es : List Event) (t : State) → CallsAskLittle d opts → CallsAreSound d opts → opts.size_cap ≤ ELEMENT_LIMIT → IsSoFar d opts es t → HaveConflicts wanted opts.budget es → journal_of es ≡ [] }
     ensures ending { (d : DesignTerm) (opts : Options) (how : Printing) (output : Output) → CallsAskLittle d opts → RunEnds d opts how SomeGivenUp output → ⊥ }
 {}

@@ -1,5 +1,6 @@
 // Laws of the definitions that layers above cite: each function has an empty body, and its contract is the law.
 
+ghost use Rattle.svr_limits.specs.declared.limit.TheConstants.{ELEMENT_LIMIT};
 ghost use Rattle.std.specs.Prelude.{◌≡◌, ◌≤◌, ℕ, Bool, true, List, [], ◌++◌};
 ghost use Rattle.std.specs.List.{All as Each};
 ghost use Rattle.svr_eval.specs.Reading.{Reading};
@@ -23,5 +24,5 @@ pub fn unmentioned_unknowns_are_as_wanted()
 
 /// The preferred assignment, which has the chosen cyclic values, is one of the last phase, and the numbers that it has for unknowns that no item mentions are in their domains: where each unknown in turn takes its preferred number if all hard items and these soft ones hold with it, each unknown that no item mentions has it in the end.
 pub fn unmentioned_unknowns_are_preferred()
-    ensures { (c : Call) (choices : List Choice) (sizes : List ℕ) (fates : List Bool) → IsSound c.frame → SizesFit c.frame sizes → c.cap ≤ 2048 → AreCyclicValues c.frame (fixed_of choices) → (found : Reading) → IsAssignment c.frame All sizes (fixed_of choices) found → all_true found (hard_items c sizes ++ kept_of (soft_items c sizes) fates) ≡ true → OthersArePreferred c sizes (preferred c choices sizes) (steps (closed_at c.frame sizes (hard_items c sizes ++ kept_of (soft_items c sizes) fates)) (preferred c choices sizes) found (unknowns_of c.frame All sizes)) }
+    ensures { (c : Call) (choices : List Choice) (sizes : List ℕ) (fates : List Bool) → IsSound c.frame → SizesFit c.frame sizes → c.cap ≤ ELEMENT_LIMIT → AreCyclicValues c.frame (fixed_of choices) → (found : Reading) → IsAssignment c.frame All sizes (fixed_of choices) found → all_true found (hard_items c sizes ++ kept_of (soft_items c sizes) fates) ≡ true → OthersArePreferred c sizes (preferred c choices sizes) (steps (closed_at c.frame sizes (hard_items c sizes ++ kept_of (soft_items c sizes) fates)) (preferred c choices sizes) found (unknowns_of c.frame All sizes)) }
 {}

@@ -15,8 +15,8 @@ use Rattle.svr_gate.specs.Numbers.{bit, number}
 use Rattle.svr_gate.specs.Circuit.{Circuit, Extends, Tells, GivesNumber}
 use Rattle.svr_gate.proofs.NumberLemmas.{number-nil, number-lt, number-append, number-take, number-drop, number-replicate, number_more, number_parts}
 use Rattle.svr_gate.proofs.Vectors.{GivesNumber-same}
-use Rattle.svr_shape.specs.declared.kind.Shift.{Shift}
-use Rattle.svr_shape.specs.declared.kind.Shift.TheVariants.{Left, Right, Signed}
+use Rattle.svr_shape.specs.declared.kind.ShiftKind.{ShiftKind}
+use Rattle.svr_shape.specs.declared.kind.ShiftKind.TheVariants.{Left, Right, Signed}
 use Rattle.svr_shape.specs.Shape.{shift_of, is_signed, fill_of, moved_of}
 use Rattle.svr_shape.proofs.ReductionLemmas.{any_number}
 
@@ -25,18 +25,18 @@ abbrev pub filled : Bool → ℕ → ℕ → ℕ → ℕ
 filled s w n k = cond s (2 ^ w - 1 - (2 ^ w - 1 - n) / 2 ^ k) (n / 2 ^ k)
 
 -- n moved by k places
-abbrev pub moved_number : Shift → Bool → ℕ → ℕ → ℕ → ℕ
+abbrev pub moved_number : ShiftKind → Bool → ℕ → ℕ → ℕ → ℕ
 moved_number Left s w n k = (n * 2 ^ k) % 2 ^ w
 moved_number Right s w n k = filled s w n k
 moved_number Signed s w n k = filled s w n k
 
 -- only the signed shift fills with ones
-abbrev pub IsFill : Shift → Bool → Type 0
+abbrev pub IsFill : ShiftKind → Bool → Type 0
 IsFill Left s = s ≡ false
 IsFill Right s = s ≡ false
 IsFill Signed s = Unit {0}
 
-pub fills : (kind : Shift) (w n : ℕ) → IsFill kind (fill_of (is_signed kind) w n)
+pub fills : (kind : ShiftKind) (w n : ℕ) → IsFill kind (fill_of (is_signed kind) w n)
 fills Left w n = refl
 fills Right w n = refl
 fills Signed w n = tt
@@ -44,7 +44,7 @@ fills Signed w n = tt
 div_le : (n k : ℕ) → n / 2 ^ k ≤ n
 div_le n k = div-le_self n (2 ^ k)
 
-moved_none : (kind : Shift) (s : Bool) (w n : ℕ) → n < 2 ^ w → moved_number kind s w n 0 ≡ n
+moved_none : (kind : ShiftKind) (s : Bool) (w n : ℕ) → n < 2 ^ w → moved_number kind s w n 0 ≡ n
 moved_none Left s w n h = ap (λ x. x % 2 ^ w) (omega arith) ∙ mod-eq_of_lt h
 moved_none Right true w n h = omega arith
 moved_none Right false w n h = omega arith
@@ -59,7 +59,7 @@ filled_twice true w n p q h =
     let back : 2 ^ w - 1 - (2 ^ w - 1 - m / 2 ^ p) ≡ m / 2 ^ p = omega (arith, le) in
     ap (λ k. 2 ^ w - 1 - k / 2 ^ q) back ∙ ap (λ k. 2 ^ w - 1 - k) (div-div-eq-div-mul m (2 ^ p) (2 ^ q) ∙ ap (λ k. m / k) (sym (pow-add 2 p q)))
 
-moved_twice : (kind : Shift) (s : Bool) (w n p q : ℕ) → n < 2 ^ w → moved_number kind s w (moved_number kind s w n p) q ≡ moved_number kind s w n (p + q)
+moved_twice : (kind : ShiftKind) (s : Bool) (w n p q : ℕ) → n < 2 ^ w → moved_number kind s w (moved_number kind s w n p) q ≡ moved_number kind s w n (p + q)
 moved_twice Left s w n p q h =
     let e : n * 2 ^ p * 2 ^ q ≡ n * 2 ^ (p + q) = omega (arith, ap (λ y. n * y) (pow-add 2 p q)) in
     mul-mod_first (n * 2 ^ p) (2 ^ q) (2 ^ w) ∙ ap (λ y. y % 2 ^ w) e
@@ -73,12 +73,12 @@ filled_past true w n k h g =
     ap (λ x. 2 ^ w - 1 - x) z ∙ omega arith
 
 -- past the width only what fills is left
-moved_past : (kind : Shift) (s : Bool) (w n k : ℕ) → IsFill kind s → n < 2 ^ w → w ≤ k → moved_number kind s w n k ≡ cond s (2 ^ w - 1) 0
+moved_past : (kind : ShiftKind) (s : Bool) (w n k : ℕ) → IsFill kind s → n < 2 ^ w → w ≤ k → moved_number kind s w n k ≡ cond s (2 ^ w - 1) 0
 moved_past Left s w n k f h g = past n k w g ∙ ap (λ b. cond b (2 ^ w - 1) 0) (sym f)
 moved_past Right s w n k f h g = filled_past s w n k h g
 moved_past Signed s w n k f h g = filled_past s w n k h g
 
-moved_capped : (kind : Shift) (s : Bool) (w n k : ℕ) → IsFill kind s → n < 2 ^ w → moved_number kind s w n (min w k) ≡ moved_number kind s w n k
+moved_capped : (kind : ShiftKind) (s : Bool) (w n k : ℕ) → IsFill kind s → n < 2 ^ w → moved_number kind s w n (min w k) ≡ moved_number kind s w n k
 moved_capped kind s w n k f h =
     ⊎_elim
     (λ (q : k < w). ap (moved_number kind s w n) (omega arith))
@@ -127,7 +127,7 @@ number-down a fill k v h =
       by_fill true = down_value (number a v) k (length v) h (number-lt a v)
       by_fill false = omega arith
 
-number-moved : (a : ℕ → Bool) (kind : Shift) (fill : Lit) (k : ℕ) (v : List Lit) → IsFill kind (lit_value a fill) → k ≤ length v → number a (moved_of kind fill k v) ≡ moved_number kind (lit_value a fill) (length v) (number a v) k
+number-moved : (a : ℕ → Bool) (kind : ShiftKind) (fill : Lit) (k : ℕ) (v : List Lit) → IsFill kind (lit_value a fill) → k ≤ length v → number a (moved_of kind fill k v) ≡ moved_number kind (lit_value a fill) (length v) (number a v) k
 number-moved a Left fill k v f h =
     number-append a (replicate k fill) (take (length v - k) v)
     ∙ ap (λ n. n + 2 ^ length (replicate k fill) * number a (take (length v - k) v)) (number-replicate a fill k ∙ ap (λ b. cond b (2 ^ k - 1) 0) f)
@@ -138,12 +138,12 @@ number-moved a Left fill k v f h =
 number-moved a Right fill k v f h = number-down a fill k v h
 number-moved a Signed fill k v f h = number-down a fill k v h
 
-stage : (kind : Shift) (s : Bool) (w n p k : ℕ) (t : Bool) → n < 2 ^ w → cond t (moved_number kind s w (moved_number kind s w n p) k) (moved_number kind s w n p) ≡ moved_number kind s w n (p + k * bit t)
+stage : (kind : ShiftKind) (s : Bool) (w n p k : ℕ) (t : Bool) → n < 2 ^ w → cond t (moved_number kind s w (moved_number kind s w n p) k) (moved_number kind s w n p) ≡ moved_number kind s w n (p + k * bit t)
 stage kind s w n p k true h = moved_twice kind s w n p k h ∙ ap (λ j. moved_number kind s w n j) (omega arith)
 stage kind s w n p k false h = ap (λ j. moved_number kind s w n j) (omega arith)
 
 -- the stages together are the shift
-pub moved_is_shift : (kind : Shift) (w n k : ℕ) → n < 2 ^ w → moved_number kind (fill_of (is_signed kind) w n) w n k ≡ shift_of kind w n k
+pub moved_is_shift : (kind : ShiftKind) (w n k : ℕ) → n < 2 ^ w → moved_number kind (fill_of (is_signed kind) w n) w n k ≡ shift_of kind w n k
 moved_is_shift Left w n k h = refl
 moved_is_shift Right w n k h = refl
 moved_is_shift Signed w n k h =
@@ -155,7 +155,7 @@ moved_is_shift Signed w n k h =
     (omega arith ∙ ap (λ x. 2 ^ w - suc x) (sym (mod-eq_of_lt (omega (arith, div_le (2 ^ w - 1 - n) k))) ∙ ap (λ x. (x / 2 ^ k) % 2 ^ w) (sym m))))
     (cases_lt n (2 ^ (w - 1)))
 
-module _ (c d : Circuit) (kind : Shift) (x by v moved next : List Lit) (fill dx : Lit) (i k : ℕ) where
+module _ (c d : Circuit) (kind : ShiftKind) (x by v moved next : List Lit) (fill dx : Lit) (i k : ℕ) where
   -- one stage more
   pub shift_step : Extends c d → i < length by → k ≡ min (length v) (2 ^ i)
       → Tells c fill (λ a. fill_of (is_signed kind) (length x) (number a x))
@@ -186,7 +186,7 @@ module _ (c d : Circuit) (kind : Shift) (x by v moved next : List Lit) (fill dx 
       ∙ ap (λ j. moved_number kind s w n j) (sym (number_more a by i dx h)))
 
 -- before the first stage
-pub shift_none : (c : Circuit) (kind : Shift) (x by : List Lit) → AreWithin c.vars x
+pub shift_none : (c : Circuit) (kind : ShiftKind) (x by : List Lit) → AreWithin c.vars x
     → GivesNumber c x (length x) (λ a. moved_number kind (fill_of (is_signed kind) (length x) (number a x)) (length x) (number a x) (number a (take 0 by)))
 shift_none c kind x by w = record {
   within = w;
@@ -197,7 +197,7 @@ shift_none c kind x by w = record {
 }
 
 -- an amount with a bit past the stages is past the width
-module _ (c d e : Circuit) (kind : Shift) (x by v next : List Lit) (fill far : Lit) (s : ℕ) (cd : Extends c d) (de : Extends d e) (h : s ≤ length by) (wide : (length by ≡ s) ⊎ (length x ≤ 2 ^ s))
+module _ (c d e : Circuit) (kind : ShiftKind) (x by v next : List Lit) (fill far : Lit) (s : ℕ) (cd : Extends c d) (de : Extends d e) (h : s ≤ length by) (wide : (length by ≡ s) ⊎ (length x ≤ 2 ^ s))
     (f : Tells c fill (λ a. fill_of (is_signed kind) (length x) (number a x)))
     (g : GivesNumber c v (length x) (λ a. moved_number kind (fill_of (is_signed kind) (length x) (number a x)) (length x) (number a x) (number a (take s by))))
     (t : Tells d far (λ a. list_any (lit_value a) (drop s by)))
@@ -237,12 +237,12 @@ module _ (c d e : Circuit) (kind : Shift) (x by v next : List Lit) (fill far : L
             (λ (z : length x ≤ 2 ^ s). omega (arith, parts, times (2 ^ s) (number a (drop s by)) q))
             wide
 
-pub moved_within : (kind : Shift) (n : ℕ) (fill : Lit) (k : ℕ) (v : List Lit) → IsWithin n fill → AreWithin n v → AreWithin n (moved_of kind fill k v)
+pub moved_within : (kind : ShiftKind) (n : ℕ) (fill : Lit) (k : ℕ) (v : List Lit) → IsWithin n fill → AreWithin n v → AreWithin n (moved_of kind fill k v)
 moved_within Left n fill k v wf wv = All-append (IsWithin n) (replicate k fill) (take (length v - k) v) (All-replicate (IsWithin n) k fill wf) (All-take (IsWithin n) (length v - k) v wv)
 moved_within Right n fill k v wf wv = All-append (IsWithin n) (drop k v) (replicate k fill) (All-drop (IsWithin n) k v wv) (All-replicate (IsWithin n) k fill wf)
 moved_within Signed n fill k v wf wv = All-append (IsWithin n) (drop k v) (replicate k fill) (All-drop (IsWithin n) k v wv) (All-replicate (IsWithin n) k fill wf)
 
-pub length_moved : (kind : Shift) (fill : Lit) (k : ℕ) (v : List Lit) → k ≤ length v → length (moved_of kind fill k v) ≡ length v
+pub length_moved : (kind : ShiftKind) (fill : Lit) (k : ℕ) (v : List Lit) → k ≤ length v → length (moved_of kind fill k v) ≡ length v
 length_moved Left fill k v h = omega (arith, length-append (replicate k fill) (take (length v - k) v), length-replicate k fill, length-take-le (length v - k) v (omega arith))
 length_moved Right fill k v h = omega (arith, length-append (drop k v) (replicate k fill), length-replicate k fill, length-drop k v)
 length_moved Signed fill k v h = omega (arith, length-append (drop k v) (replicate k fill), length-replicate k fill, length-drop k v)

@@ -2,7 +2,7 @@
 
 /// Which way a shift goes, and what it fills with (11.4.10).
 #[derive(Clone, Copy, Debug, PartialEq, Eq)]
-pub enum Shift {
+pub enum ShiftKind {
     /// Up, filled with zeros: `<<` and `<<<`.
     Left,
     /// Down, filled with zeros: `>>`, and `>>>` where the result is unsigned.

@@ -14,7 +14,7 @@ mod shifter;
 
 pub use choice::choose;
 pub use extension::extend;
-pub use kind::Shift;
+pub use kind::ShiftKind;
 pub use memory::NoMemory;
 pub use reduction::{all, any, odd};
 pub use shifter::shift;

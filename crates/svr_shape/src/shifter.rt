@@ -8,7 +8,7 @@ ghost use Rattle.svr_shape.specs.Shape.{shift_of, is_signed, moved_of};
 
 use crate::choice::choose;
 use crate::extension::{filler, repeated};
-use crate::kind::Shift;
+use crate::kind::ShiftKind;
 use crate::memory::NoMemory;
 use crate::reduction::any;
 use std::alloc::Global;
@@ -19,16 +19,16 @@ use svr_gate::Builder;
 const STAGES: usize = 6;
 
 /// Whether the sign bit fills.
-fn is_signed(kind: Shift) -> bool
+fn is_signed(kind: ShiftKind) -> bool
     ensures { result ≡ is_signed kind }
 {
-    matches!(kind, Shift::Signed)
+    matches!(kind, ShiftKind::Signed)
 }
 
 /// The vector moved by a fixed number of places.
 fn moved(
     alloc: Global,
-    kind: Shift,
+    kind: ShiftKind,
     x: &[Lit],
     fill: Lit,
     places: usize,
@@ -38,8 +38,8 @@ fn moved(
 {
     let filled = repeated(alloc, fill, places)?;
     let (low, high) = match kind {
-        Shift::Left => (&filled[..], &x[..x.len() - places]),
-        Shift::Right | Shift::Signed => (&x[places..], &filled[..]),
+        ShiftKind::Left => (&filled[..], &x[..x.len() - places]),
+        ShiftKind::Right | ShiftKind::Signed => (&x[places..], &filled[..]),
     };
     let mut moved = Vec::from_slice(alloc, low)?;
     moved.extend_from_slice(high)?;
@@ -51,7 +51,7 @@ fn moved(
 pub fn shift(
     alloc: Global,
     b: &mut Builder,
-    kind: Shift,
+    kind: ShiftKind,
     x: &[Lit],
     by: &[Lit],
 ) -> Result<Vec<Lit>, NoMemory>

@@ -1,5 +1,6 @@
 // One question for sizes.
 
+ghost use Rattle.svr_limits.specs.declared.limit.TheConstants.{ELEMENT_LIMIT};
 ghost use Rattle.std.specs.Prelude.{◌≡◌, ◌≤◌, ℕ, List, [], map, IfOk};
 ghost use Rattle.svr_typed.specs.ExprTerm.{expr_term};
 ghost use Rattle.svr_frame.specs.declared.part.Part.TheVariants.{Sizes};
@@ -76,7 +77,7 @@ pub(crate) fn ask(
 ) -> Result<Found, NoMemory>
     requires sound { IsSound (frame_term frame.now) }
     requires some { 1 ≤ opts.size_cap }
-    requires cap { opts.size_cap ≤ 2048 }
+    requires cap { opts.size_cap ≤ ELEMENT_LIMIT }
     requires budget { 1 ≤ opts.budget }
     requires chosen { AreCyclicValues (frame_term frame.now) chosen.now }
     requires hard { map expr_term asked.hard ≡ closed_at (frame_term frame.now) (frame_term frame.now).state.sizes (hard_over (frame_term frame.now) opts.size_cap scope) }
@@ -116,7 +117,7 @@ pub(crate) fn ask_hard(
 ) -> Result<Found, NoMemory>
     requires sound { IsSound (frame_term frame.now) }
     requires some { 1 ≤ opts.size_cap }
-    requires cap { opts.size_cap ≤ 2048 }
+    requires cap { opts.size_cap ≤ ELEMENT_LIMIT }
     requires budget { 1 ≤ opts.budget }
     requires chosen { AreCyclicValues (frame_term frame.now) chosen.now }
     requires alone { soft_over (frame_term frame.now) scope ≡ [] }

@@ -1,5 +1,6 @@
 // The sizes of a call.
 
+ghost use Rattle.svr_limits.specs.declared.limit.TheConstants.{ELEMENT_LIMIT};
 ghost use Rattle.std.specs.Prelude.{◌≡◌, ◌≤◌, ◌&&◌, ℕ, true, false, [], map, IfOk};
 ghost use Rattle.std.specs.List.{All, list_all};
 ghost use Rattle.svr_typed.specs.ExprTerm.{expr_term};
@@ -78,7 +79,7 @@ fn beyond(
 ) -> Result<SizesEnd, NoMemory>
     requires sound { IsSound (frame_term frame.now) }
     requires some { 1 ≤ opts.size_cap }
-    requires cap { opts.size_cap ≤ 2048 }
+    requires cap { opts.size_cap ≤ ELEMENT_LIMIT }
     requires budget { 1 ≤ opts.budget }
     requires chosen { AreCyclicValues (frame_term frame.now) chosen.now }
     requires none { SomeMeets (frame_term frame.now) chosen.now (hard_over (frame_term frame.now) opts.size_cap Capped) → ⊥ }
@@ -118,7 +119,7 @@ fn not_within(
 ) -> Result<SizesEnd, NoMemory>
     requires sound { IsSound (frame_term frame.now) }
     requires some { 1 ≤ opts.size_cap }
-    requires cap { opts.size_cap ≤ 2048 }
+    requires cap { opts.size_cap ≤ ELEMENT_LIMIT }
     requires budget { 1 ≤ opts.budget }
     requires chosen { AreCyclicValues (frame_term frame.now) chosen.now }
     requires none { SomeMeets (frame_term frame.now) chosen.now (hard_over (frame_term frame.now) opts.size_cap Capped) → ⊥ }
@@ -157,7 +158,7 @@ fn searched(
 ) -> Result<SizesEnd, NoMemory>
     requires sound { IsSound (frame_term frame.now) }
     requires some { 1 ≤ opts.size_cap }
-    requires cap { opts.size_cap ≤ 2048 }
+    requires cap { opts.size_cap ≤ ELEMENT_LIMIT }
     requires budget { 1 ≤ opts.budget }
     requires chosen { AreCyclicValues (frame_term frame.now) chosen.now }
     requires hard { map expr_term asked.hard ≡ closed_at (frame_term frame.now) (frame_term frame.now).state.sizes (hard_over (frame_term frame.now) opts.size_cap Wished) }
@@ -193,7 +194,7 @@ pub fn choose_sizes(
 ) -> Result<SizesEnd, NoMemory>
     requires sound { IsSound (frame_term frame.now) }
     requires some { 1 ≤ opts.size_cap }
-    requires cap { opts.size_cap ≤ 2048 }
+    requires cap { opts.size_cap ≤ ELEMENT_LIMIT }
     requires budget { 1 ≤ opts.budget }
     requires chosen { AreCyclicValues (frame_term frame.now) chosen.now }
     ensures { IfOk result (SizesEnds (frame_term frame.now) (asked_by opts number chosen.now) opts.budget) }

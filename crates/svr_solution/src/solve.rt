@@ -1,5 +1,6 @@
 // The assignment of an answer 1 behind a question.
 
+ghost use Rattle.svr_limits.specs.declared.limit.TheConstants.{ELEMENT_LIMIT};
 ghost use Rattle.std.specs.Prelude.{◌≡◌, ◌-◌, ◌≤◌, ℕ, true, List, ◌++◌, length, replicate, IfOk};
 ghost use Rattle.svr_eval.specs.Reading.{reading_of};
 ghost use Rattle.svr_frame.specs.declared.part.Part.TheVariants.{All as Whole};
@@ -49,7 +50,7 @@ pub fn solution(
     requires met { (place : ℕ) × IsMet (frame_term frame.now) sizes.now chosen.now place encoding.now met.now }
     requires wanted { IsAssignment (frame_term frame.now) Whole sizes.now chosen.now (reading_of wanted.now) }
     ensures fits { IfOk result (λ a. IsAssignment (frame_term frame.now) Whole sizes.now chosen.now (reading_of a)) }
-    ensures solves { IfOk result (λ a. (used : List (List ℕ)) (words : ℕ → ℕ) (budget cap : ℕ) (choices : List Choice) → cap ≤ 2048 → chosen.now ≡ fixed_of choices → reading_of wanted.now ≡ preferred (call_in (frame_term frame.now) used words budget cap) choices sizes.now → IsSolution (call_in (frame_term frame.now) used words budget cap) choices sizes.now met.now.fates.items (reading_of a)) }
+    ensures solves { IfOk result (λ a. (used : List (List ℕ)) (words : ℕ → ℕ) (budget cap : ℕ) (choices : List Choice) → cap ≤ ELEMENT_LIMIT → chosen.now ≡ fixed_of choices → reading_of wanted.now ≡ preferred (call_in (frame_term frame.now) used words budget cap) choices sizes.now → IsSolution (call_in (frame_term frame.now) used words budget cap) choices sizes.now met.now.fates.items (reading_of a)) }
 {
     let values = met.values.as_slice();
     let found = assignment_found(alloc, frame, sizes, encoding, values)?;

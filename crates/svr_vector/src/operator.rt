@@ -89,17 +89,17 @@ pub fn combined(
 }
 
 /// The kind of a shift in a signed context or not.
-fn kind_of(op: Shift, signed: bool) -> svr_shape::Shift
+fn kind_of(op: Shift, signed: bool) -> svr_shape::ShiftKind
     ensures { result ≡ kind_of op signed }
 {
     match op {
-        Shift::Left => svr_shape::Shift::Left,
-        Shift::Right => svr_shape::Shift::Right,
+        Shift::Left => svr_shape::ShiftKind::Left,
+        Shift::Right => svr_shape::ShiftKind::Right,
         Shift::RightArith => {
             if signed {
-                svr_shape::Shift::Signed
+                svr_shape::ShiftKind::Signed
             } else {
-                svr_shape::Shift::Right
+                svr_shape::ShiftKind::Right
             }
         }
     }

@@ -1,5 +1,5 @@
 use Rattle.svr_elab_order.proofs.Ways.{by_chains, by_loop}
-use Rattle.svr_elab_order.proofs.law.comes_by_chains.Goals as goal
+use Rattle.svr_elab_order.proofs.law.comes_by_items.Goals as goal
 
 pub returns-clause-chain : goal.returns-clause-chain
 returns-clause-chain c = by_chains
