@@ -7,7 +7,7 @@ use Rattle.svr_elab_fault.specs.declared.Fault.{Fault}
 use Rattle.svr_elab_fault.specs.Refusals.{when, all, first_one, earlier, least}
 use Rattle.svr_elab_fault.proofs.Least.{least_append, least_when, earlier_assoc}
 use Rattle.svr_elab_order.specs.declared.order.Order.{Order}
-use Rattle.svr_elab_order.specs.Order.{is_in, orders_itself, is_put, LeadsTo, one, more}
+use Rattle.svr_elab_order.specs.Order.{is_in, orders_itself, is_put, Precedes, one, more}
 use Rattle.svr_elab_order.specs.Cycles.{cycles, all_refused, IsFirstCycle, KeepsTheFirst}
 use Rattle.svr_elab_order.proofs.Ways.{loop_itself, itself_loop}
 
@@ -20,7 +20,7 @@ put_longer (o ∷ os) ps a b h = elim (or_cases (is_in a o.first && is_in b o.la
   | inr e ↦ or_right (is_in a o.first && is_in b o.later) (is_put (os ++ ps) a b) (put_longer os ps a b e)
 ]
 
-chain_longer : (os ps : List Order) (a b : ℕ) → LeadsTo os a b → LeadsTo (os ++ ps) a b
+chain_longer : (os ps : List Order) (a b : ℕ) → Precedes os a b → Precedes (os ++ ps) a b
 chain_longer os ps a b (one _ _ p) = one a b (put_longer os ps a b p)
 chain_longer os ps a c (more _ b _ h p) = more a b c (chain_longer os ps a b h) (put_longer os ps b c p)
 

@@ -4,7 +4,7 @@ use Rattle.std.specs.Prelude.{◌⊎◌}
 use Rattle.std.proofs.lemmas.Bool.{or_cases, or_left, or_right, and_parts, and_from, eqb-true, eq-eqb, false≢true, cases_Bool, cases_lt, both_ways, true_from_ne_false, false_from_ne_true, not_from_true, not_from_false}
 use Rattle.std.proofs.lemmas.List.{get_or_append_left, get_or-append-add, length-map}
 use Rattle.svr_elab_order.specs.declared.order.Order.{Order}
-use Rattle.svr_elab_order.specs.Order.{is_in, before_of, orders_itself, is_put, LeadsTo, one, more}
+use Rattle.svr_elab_order.specs.Order.{is_in, before_of, orders_itself, is_put, Precedes, one, more}
 use Rattle.svr_elab_order.specs.Graph.{right_before, IsFounded, founded, is_settled, AreFounded, AreHeld, AreAll, first_of, is_named, AreNames, is_item_before, IsGraph}
 use Rattle.svr_elab_order.proofs.Ways.{both_chains, loop_itself, itself_loop, before_transitive, put_before, before_chain}
 
@@ -14,19 +14,19 @@ use Rattle.svr_elab_order.proofs.Ways.{both_chains, loop_itself, itself_loop, be
 data IsGrounded (os : List Order) : ℕ → Type 0 where
   grounded : (b : ℕ) → ((a : ℕ) → is_put os a b ≡ true → IsGrounded os a) → IsGrounded os b
 
-ahead : (os : List Order) (a b c : ℕ) → is_put os a b ≡ true → LeadsTo os b c → LeadsTo os a c
+ahead : (os : List Order) (a b c : ℕ) → is_put os a b ≡ true → Precedes os b c → Precedes os a c
 ahead os a b c p h = both_chains os a b c (one a b p) h
 
 -- the last item of a chain that leads back
-last_item : (os : List Order) (a b : ℕ) → LeadsTo os a b → (p : ℕ) × (is_put os p b ≡ true) × ((a ≡ p) ⊎ LeadsTo os a p)
+last_item : (os : List Order) (a b : ℕ) → Precedes os a b → (p : ℕ) × (is_put os p b ≡ true) × ((a ≡ p) ⊎ Precedes os a p)
 last_item os a b (one _ _ p) = (a, p, inl refl)
 last_item os a c (more _ b _ h p) = (b, p, inr h)
 
-around : (os : List Order) (b p : ℕ) → is_put os p b ≡ true → (b ≡ p) ⊎ LeadsTo os b p → LeadsTo os p p
-around os b p h (inl e) = subst (LeadsTo os p) e (one p b h)
+around : (os : List Order) (b p : ℕ) → is_put os p b ≡ true → (b ≡ p) ⊎ Precedes os b p → Precedes os p p
+around os b p h (inl e) = subst (Precedes os p) e (one p b h)
 around os b p h (inr k) = ahead os p b p h k
 
-no_loop : (os : List Order) (b : ℕ) → IsGrounded os b → LeadsTo os b b → ⊥
+no_loop : (os : List Order) (b : ℕ) → IsGrounded os b → Precedes os b b → ⊥
 no_loop os b (grounded _ f) h =
     let w = last_item os b b h in
     no_loop os w.0 (f w.0 w.1) (around os b w.0 w.1 w.2)
@@ -266,7 +266,7 @@ module _ (names : ℕ) (os : List Order) (g : List (List ℕ)) (graph : IsGraph 
         let k = some_unsettled w.0 w.1 w.2 in
         true_from_ne_false (orders_itself os) (stuck k.0 k.1)
 
-  put_last : (x y : ℕ) → LeadsTo os x y → x < names
+  put_last : (x y : ℕ) → Precedes os x y → x < names
   put_last x y (one _ _ p) = put_name x y p
   put_last x z (more _ y _ h p) = put_last x y h
 

@@ -4,7 +4,7 @@ use Rattle.std.specs.Prelude.{◌⊎◌}
 use Rattle.std.proofs.lemmas.Bool.{or_cases, or_left, or_right, and_parts, and_from, eqb-true, eq-eqb, false≢true}
 use Rattle.std.proofs.lemmas.List.Folds.{list_any-append}
 use Rattle.svr_elab_order.specs.declared.order.Order.{Order}
-use Rattle.svr_elab_order.specs.Order.{is_in, leads_to, follows_from, before_of, first_names, some_before_itself, orders_itself, is_put, LeadsTo, one, more, ComesByItems, ComesByLoop}
+use Rattle.svr_elab_order.specs.Order.{is_in, leads_to, follows_from, before_of, first_names, some_before_itself, orders_itself, is_put, Precedes, one, more, ComesByItems, ComesByLoop}
 
 -- ---- names in lists
 
@@ -129,33 +129,33 @@ put_before (o ∷ os) a b h = elim (or_cases (is_in a o.first && is_in b o.later
   | inr e ↦ or_left (before_of os a b) (leads_to (before_of os) a o.first && follows_from (before_of os) o.later b) (put_before os a b e)
 ]
 
-pub chain_before : (os : List Order) (a b : ℕ) → LeadsTo os a b → before_of os a b ≡ true
+pub chain_before : (os : List Order) (a b : ℕ) → Precedes os a b → before_of os a b ≡ true
 chain_before os a b (one _ _ p) = put_before os a b p
 chain_before os a c (more _ b _ h p) = before_transitive os a b c (chain_before os a b h) (put_before os b c p)
 
 -- ---- and the other way round
 
-longer : (o : Order) (os : List Order) (a b : ℕ) → LeadsTo os a b → LeadsTo (o ∷ os) a b
+longer : (o : Order) (os : List Order) (a b : ℕ) → Precedes os a b → Precedes (o ∷ os) a b
 longer o os a b (one _ _ p) = one a b (or_right (is_in a o.first && is_in b o.later) (is_put os a b) p)
 longer o os a c (more _ b _ h p) = more a b c (longer o os a b h) (or_right (is_in b o.first && is_in c o.later) (is_put os b c) p)
 
-pub both_chains : (os : List Order) (a b c : ℕ) → LeadsTo os a b → LeadsTo os b c → LeadsTo os a c
+pub both_chains : (os : List Order) (a b c : ℕ) → Precedes os a b → Precedes os b c → Precedes os a c
 both_chains os a b c h (one _ _ p) = more a b c h p
 both_chains os a b d h (more _ c _ k p) = more a c d (both_chains os a b c h k) p
 
 -- a chain, or none
 abbrev Way : List Order → ℕ → ℕ → Type 0
-Way os a b = (a ≡ b) ⊎ LeadsTo os a b
+Way os a b = (a ≡ b) ⊎ Precedes os a b
 
-way_put : (os : List Order) (a x y : ℕ) → Way os a x → is_put os x y ≡ true → LeadsTo os a y
+way_put : (os : List Order) (a x y : ℕ) → Way os a x → is_put os x y ≡ true → Precedes os a y
 way_put os a x y (inl e) p = one a y (ap (λ (k : ℕ). is_put os k y) e ∙ p)
 way_put os a x y (inr h) p = more a x y h p
 
-chain_way : (os : List Order) (a y b : ℕ) → LeadsTo os a y → Way os y b → LeadsTo os a b
-chain_way os a y b h (inl e) = subst (LeadsTo os a) e h
+chain_way : (os : List Order) (a y b : ℕ) → Precedes os a y → Way os y b → Precedes os a b
+chain_way os a y b h (inl e) = subst (Precedes os a) e h
 chain_way os a y b h (inr k) = both_chains os a y b h k
 
-pub before_chain : (os : List Order) (a b : ℕ) → before_of os a b ≡ true → LeadsTo os a b
+pub before_chain : (os : List Order) (a b : ℕ) → before_of os a b ≡ true → Precedes os a b
 before_chain [] a b h = absurd (false≢true h)
 before_chain (o ∷ os) a b h = elim (or_cases (before_of os a b) (leads_to (before_of os) a o.first && follows_from (before_of os) o.later b) h) [
   | inl e ↦ longer o os a b (before_chain os a b e)
@@ -198,14 +198,14 @@ put_first (o ∷ os) a b h = elim (or_cases (is_in a o.first && is_in b o.later)
   | inr e ↦ in_append_right a o.first (first_names os) (put_first os a b e)
 ]
 
-chain_first : (os : List Order) (a b : ℕ) → LeadsTo os a b → is_in a (first_names os) ≡ true
+chain_first : (os : List Order) (a b : ℕ) → Precedes os a b → is_in a (first_names os) ≡ true
 chain_first os a b (one _ _ p) = put_first os a b p
 chain_first os a c (more _ b _ h p) = chain_first os a b h
 
-pub loop_itself : (os : List Order) (a : ℕ) → LeadsTo os a a → orders_itself os ≡ true
+pub loop_itself : (os : List Order) (a : ℕ) → Precedes os a a → orders_itself os ≡ true
 loop_itself os a h = itself_some (before_of os) (first_names os) a (chain_first os a a h) (chain_before os a a h)
 
-pub itself_loop : (os : List Order) → orders_itself os ≡ true → (a : ℕ) × LeadsTo os a a
+pub itself_loop : (os : List Order) → orders_itself os ≡ true → (a : ℕ) × Precedes os a a
 itself_loop os h = let w = some_itself (before_of os) (first_names os) h in (w.0, before_chain os w.0 w.0 w.1)
 
 pub by_loop : ComesByLoop

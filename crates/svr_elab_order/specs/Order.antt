@@ -43,13 +43,13 @@ is_put [] a b = false
 is_put (o ∷ os) a b = (is_in a o.first && is_in b o.later) || is_put os a b
 
 -- items that lead from a to b, one behind the other
-pub data LeadsTo (os : List Order) : ℕ → ℕ → Type 0 where
-  one : (a b : ℕ) → is_put os a b ≡ true → LeadsTo os a b
-  more : (a b c : ℕ) → LeadsTo os a b → is_put os b c ≡ true → LeadsTo os a c
+pub data Precedes (os : List Order) : ℕ → ℕ → Type 0 where
+  one : (a b : ℕ) → is_put os a b ≡ true → Precedes os a b
+  more : (a b c : ℕ) → Precedes os a b → is_put os b c ≡ true → Precedes os a c
 
 -- what comes before what is what a chain of items leads to
 abbrev pub ComesByItems : Type 0
-ComesByItems = (os : List Order) (a b : ℕ) → (before_of os a b ≡ true) ↔ LeadsTo os a b
+ComesByItems = (os : List Order) (a b : ℕ) → (before_of os a b ≡ true) ↔ Precedes os a b
 
 abbrev pub ComesByLoop : Type 0
-ComesByLoop = (os : List Order) → (orders_itself os ≡ true) ↔ ((a : ℕ) × LeadsTo os a a)
+ComesByLoop = (os : List Order) → (orders_itself os ≡ true) ↔ ((a : ℕ) × Precedes os a a)
