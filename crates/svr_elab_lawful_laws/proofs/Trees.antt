@@ -193,8 +193,8 @@ resize_there (target.Variable v) c h k = absurd (true≢false (sym h))
 resize_there (target.Place o p) c h k = absurd (true≢false (sym h))
 resize_there (target.Array o p) c h k = mapped _ c k
 
-resized_there : (x : Elab (Option Fault)) (c : Constant (Option Fault)) → Left x → (c.faults ≡ None → IsKnown c.number) → (spec.resized first_one x c).faults ≡ None → IsKnown (spec.resized first_one x c).tree
-resized_there x c l k f =
+resize_stmt_there : (x : Elab (Option Fault)) (c : Constant (Option Fault)) → Left x → (c.faults ≡ None → IsKnown c.number) → (spec.resize_stmt first_one x c).faults ≡ None → IsKnown (spec.resize_stmt first_one x c).tree
+resize_stmt_there x c l k f =
     let w1 : Option Fault = misplaced first_one x.form (targets.is_resizable (target_of x.form)) in
     let w2 : Option Fault = spec.size_faults first_one c in
     let clear : x.faults ≡ None = none_left x.faults (earlier c.faults (earlier w1 w2)) f in
@@ -209,8 +209,8 @@ pattern_there (target.Variable v) vs h k = absurd (true≢false (sym h))
 pattern_there (target.Place o p) vs h k = absurd (true≢false (sym h))
 pattern_there (target.Array o p) vs h k = mapped _ vs k
 
-patterned_there : (x : Elab (Option Fault)) (at : ℕ) (vs : ValuesElab (Option Fault)) → Left x → (vs.faults ≡ None → IsKnown vs.trees) → (spec.patterned first_one x at vs).faults ≡ None → IsKnown (spec.patterned first_one x at vs).tree
-patterned_there x at vs l k f =
+pattern_stmt_there : (x : Elab (Option Fault)) (at : ℕ) (vs : ValuesElab (Option Fault)) → Left x → (vs.faults ≡ None → IsKnown vs.trees) → (spec.pattern_stmt first_one x at vs).faults ≡ None → IsKnown (spec.pattern_stmt first_one x at vs).tree
+pattern_stmt_there x at vs l k f =
     let w1 : Option Fault = misplaced first_one x.form (targets.is_array (target_of x.form)) in
     let w2 : Option Fault = earlier (when first_one (spec.has_rows (targets.array_dims (target_of x.form))) x.form.name refusal.LeftOut) (spec.count_faults first_one (targets.array_dims (target_of x.form)) at vs.many) in
     let clear : x.faults ≡ None = none_left x.faults (earlier vs.faults (earlier w1 w2)) f in
@@ -271,9 +271,9 @@ module _ (items_there : ItemsAreThere) where
   right_there : (n : Space) (x : Elab (Option Fault)) (r : RightTree) → Left x → NamesKnown n → n.loops ≡ [] → (spec.assignment first_one n x r).faults ≡ None → IsKnown (spec.assignment first_one n x r).tree
   right_there n x (tree.value e) l known outer f = given_there x (elab first_one n e) l (accepted_has_tree n e known) f
   right_there n x (tree.new parens) l known outer f = made_there x l f
-  right_there n x (tree.new_array e) l known outer f = resized_there x (constant_at first_one n e) l (constants_have_numbers n e known.globals) f
+  right_there n x (tree.new_array e) l known outer f = resize_stmt_there x (constant_at first_one n e) l (constants_have_numbers n e known.globals) f
   right_there n x (tree.pattern at vs) l known outer f =
-      patterned_there x at (spec.values first_one n x.form.members (spec.no_values first_one) vs) l (values_there n x.form.members vs (spec.no_values first_one) known (λ g. refl)) f
+      pattern_stmt_there x at (spec.values first_one n x.form.members (spec.no_values first_one) vs) l (values_there n x.form.members vs (spec.no_values first_one) known (λ g. refl)) f
   right_there n x (tree.answer c) l known outer f = call_is_there n (targets.answer_number (target_of x.form)) c known outer (none_right _ _ f)
 
   mutual

@@ -1,6 +1,6 @@
 -- The conditions of a lawful design, one by one, of the design of a script in which nothing is refused. Each node of the script stands where the grammar allows it.
 use Rattle.std.specs.Prelude.{◌≡◌, ◌≤◌, ◌+◌, ℕ, List, [], length, map, MatchOption, ⊤}
-use Rattle.svr_limits.specs.declared.limit.TheConstants.{PROPERTY_LIMIT}
+use Rattle.svr_limits.specs.declared.limit.TheConstants.{ARRAY_LIMIT, PROPERTY_LIMIT, STATEMENT_LIMIT, VARIABLE_LIMIT}
 use Rattle.svr_typed.specs.declared.Prop.{Prop}
 use Rattle.svr_typed.specs.declared.TVar.{TVar}
 use Rattle.svr_typed.specs.ClassTerm.{ClassTerm}
@@ -27,7 +27,7 @@ pub record ClassStands (d : DesignTerm) (k : ℕ) (c : ClassTerm) : Type 0 where
   pub base : BaseIsBefore k c.base
   pub props : Every (IsProp d.enums) c.props
   pub few : length (flat_class_of d.classes k).props ≤ PROPERTY_LIMIT
-  pub few_arrays : arrays_in (flat_class_of d.classes k).props ≤ 32
+  pub few_arrays : arrays_in (flat_class_of d.classes k).props ≤ ARRAY_LIMIT
   pub differ : NamesDiffer (map (λ (p : Prop). p.name) (flat_class_of d.classes k).props)
 
 abbrev pub ClassesAreLawful : Type 0
@@ -38,11 +38,11 @@ VariablesAreLawful = AcceptedIs (λ d. Every (λ (v : TVar). VariableStands d v.
 
 -- at most 4,096 object variables, and at most 4,096 others
 abbrev pub VariablesAreFew : Type 0
-VariablesAreFew = AcceptedIs (λ d. (objects_in d.vars ≤ 4096) × (length d.vars ≤ objects_in d.vars + 4096))
+VariablesAreFew = AcceptedIs (λ d. (objects_in d.vars ≤ VARIABLE_LIMIT) × (length d.vars ≤ objects_in d.vars + VARIABLE_LIMIT))
 
 -- at most 100,000 statements run
 abbrev pub StatementsAreFew : Type 0
-StatementsAreFew = AcceptedIs (λ d. all_run d.stmts ≤ 100000)
+StatementsAreFew = AcceptedIs (λ d. all_run d.stmts ≤ STATEMENT_LIMIT)
 
 -- which properties can be random: those that are declared so, and those that a call lists on an object of their class or of one that is derived from it
 abbrev pub RandomIsLawful : Type 0

@@ -79,11 +79,11 @@ answered_is n x c f k s r h i j e =
 pub given_is : (x v w : Part) (r : One) → r ≡ spec.given first_one x v → v ≡ w → r ≡ spec.given first_one x w
 given_is x v w r h e = h ∙ ap (λ (v : Part). spec.given first_one x v) e
 
-pub resized_is : (x : Part) (v w : Constant (Option Fault)) (r : One) → r ≡ spec.resized first_one x v → v ≡ w → r ≡ spec.resized first_one x w
-resized_is x v w r h e = h ∙ ap (λ (v : Constant (Option Fault)). spec.resized first_one x v) e
+pub resize_stmt_is : (x : Part) (v w : Constant (Option Fault)) (r : One) → r ≡ spec.resize_stmt first_one x v → v ≡ w → r ≡ spec.resize_stmt first_one x w
+resize_stmt_is x v w r h e = h ∙ ap (λ (v : Constant (Option Fault)). spec.resize_stmt first_one x v) e
 
-pub patterned_is : (x : Part) (at : ℕ) (v w : ValuesElab (Option Fault)) (r : One) → r ≡ spec.patterned first_one x at v → v ≡ w → r ≡ spec.patterned first_one x at w
-patterned_is x at v w r h e = h ∙ ap (λ (v : ValuesElab (Option Fault)). spec.patterned first_one x at v) e
+pub pattern_stmt_is : (x : Part) (at : ℕ) (v w : ValuesElab (Option Fault)) (r : One) → r ≡ spec.pattern_stmt first_one x at v → v ≡ w → r ≡ spec.pattern_stmt first_one x at w
+pattern_stmt_is x at v w r h e = h ∙ ap (λ (v : ValuesElab (Option Fault)). spec.pattern_stmt first_one x at v) e
 
 pub assign_is : (n : Space) (x y : Part) (right : RightTree) (r : One) → r ≡ spec.assignment first_one n x right → x ≡ y → r ≡ spec.assignment first_one n y right
 assign_is n x y right r h e = h ∙ ap (λ (x : Part). spec.assignment first_one n x right) e
@@ -96,8 +96,8 @@ assign_there m n x right r h e = h ∙ ap (λ (m : Space). spec.assignment first
 pub call_there_is : (m n : Space) (c : RandomizeTree) (r : One) → r ≡ spec.randomized first_one m None c → m ≡ n → r ≡ spec.randomized first_one n None c
 call_there_is m n c r h e = h ∙ ap (λ (m : Space). spec.randomized first_one m None c) e
 
-pub mode_there_is : (m n : Space) (c : ModeTree) (r : One) → r ≡ spec.moded first_one m c → m ≡ n → r ≡ spec.moded first_one n c
-mode_there_is m n c r h e = h ∙ ap (λ (m : Space). spec.moded first_one m c) e
+pub mode_there_is : (m n : Space) (c : ModeTree) (r : One) → r ≡ spec.mode_stmt first_one m c → m ≡ n → r ≡ spec.mode_stmt first_one n c
+mode_there_is m n c r h e = h ∙ ap (λ (m : Space). spec.mode_stmt first_one m c) e
 
 pub constant_there : (m n : Space) (x : ExprTree) (r : Constant (Option Fault)) → r ≡ constant_at first_one m x → m ≡ n → r ≡ constant_at first_one n x
 constant_there m n x r h e = h ∙ ap (λ (m : Space). constant_at first_one m x) e
@@ -107,8 +107,8 @@ constant_there m n x r h e = h ∙ ap (λ (m : Space). constant_at first_one m x
 pub next_is : (old new : List ℕ) (makes : Option ℕ) (p : Many) (q : StmtsPart) → new ≡ spec.and_made old makes → stmts_part (spec.and_made old makes) q ≡ p → stmts_part new q ≡ p
 next_is old new makes p q e h = ap (λ (made : List ℕ). stmts_part made q) e ∙ h
 
-pub repeated_is : (c d : Constant (Option Fault)) (s t r : One) → r ≡ spec.repeated first_one c s → c ≡ d → s ≡ t → r ≡ spec.repeated first_one d t
-repeated_is c d s t r h e f = h ∙ ap (λ (c : Constant (Option Fault)). spec.repeated first_one c s) e ∙ ap (λ (s : One). spec.repeated first_one d s) f
+pub repeat_stmt_is : (c d : Constant (Option Fault)) (s t r : One) → r ≡ spec.repeat_stmt first_one c s → c ≡ d → s ≡ t → r ≡ spec.repeat_stmt first_one d t
+repeat_stmt_is c d s t r h e f = h ∙ ap (λ (c : Constant (Option Fault)). spec.repeat_stmt first_one c s) e ∙ ap (λ (s : One). spec.repeat_stmt first_one d s) f
 
 -- each statement of a list has the object variables of the list, whatever the names say
 pub same_made : (n : Space) (made : List ℕ) (ss : Many) (rest : StmtTrees) → spec.stmts first_one n ss rest ≡ spec.stmts first_one (spec.with_made n made) ss rest
@@ -116,9 +116,9 @@ same_made n made ss tree.no_stmts = refl
 same_made n made ss (tree.more_stmts s rest) = same_made n made (spec.and_stmt first_one ss (spec.stmt first_one (spec.with_made n ss.made) s)) rest
 
 pub block_is : (n : Space) (old new : List ℕ) (p : StmtsPart) (ss : StmtTrees) (r : One)
-    → r ≡ spec.grouped first_one (stmts_part new p) → stmts_part new p ≡ spec.stmts first_one n (spec.no_stmts first_one old) ss
-    → r ≡ spec.grouped first_one (spec.stmts first_one (spec.with_made n old) (spec.no_stmts first_one old) ss)
-block_is n old new p ss r h e = h ∙ ap (spec.grouped first_one) (e ∙ same_made n old (spec.no_stmts first_one old) ss)
+    → r ≡ spec.block_stmt first_one (stmts_part new p) → stmts_part new p ≡ spec.stmts first_one n (spec.no_stmts first_one old) ss
+    → r ≡ spec.block_stmt first_one (spec.stmts first_one (spec.with_made n old) (spec.no_stmts first_one old) ss)
+block_is n old new p ss r h e = h ∙ ap (spec.block_stmt first_one) (e ∙ same_made n old (spec.no_stmts first_one old) ss)
 
 -- the first of those that are left of a list
 pub rest_is : (xs : List Stmt) (i : ℕ) (x : Stmt) → i < length xs → x ≡ get_or xs i x → stmt_trees (drop i xs) ≡ tree.more_stmts (stmt_tree x) (stmt_trees (drop (i + 1) xs))

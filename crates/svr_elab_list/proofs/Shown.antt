@@ -79,14 +79,14 @@ given_shown x v =
 pub made_shown : (x : Elab (List Fault)) → shown_stmt (spec.made_new all x) ≡ spec.made_new first_one (shown x)
 made_shown x = simp (least_append, least_when) refl
 
-resized_shown : (x : Elab (List Fault)) (c : Constant (List Fault)) → shown_stmt (spec.resized all x c) ≡ spec.resized first_one (shown x) (shown_constant c)
-resized_shown x c = simp (least_append, least_when) refl
+resize_stmt_shown : (x : Elab (List Fault)) (c : Constant (List Fault)) → shown_stmt (spec.resize_stmt all x c) ≡ spec.resize_stmt first_one (shown x) (shown_constant c)
+resize_stmt_shown x c = simp (least_append, least_when) refl
 
 pattern_shown : (f : Form) (at many : ℕ) → least (spec.pattern_faults all f at many) ≡ spec.pattern_faults first_one f at many
 pattern_shown f at many = simp (least_append, least_when) refl
 
-patterned_shown : (x : Elab (List Fault)) (at : ℕ) (vs : ValuesElab (List Fault)) → shown_stmt (spec.patterned all x at vs) ≡ spec.patterned first_one (shown x) at (shown_values vs)
-patterned_shown x at vs = simp (least_append, least_when) refl
+pattern_stmt_shown : (x : Elab (List Fault)) (at : ℕ) (vs : ValuesElab (List Fault)) → shown_stmt (spec.pattern_stmt all x at vs) ≡ spec.pattern_stmt first_one (shown x) at (shown_values vs)
+pattern_stmt_shown x at vs = simp (least_append, least_when) refl
 
 -- ---- calls and modes
 
@@ -144,15 +144,15 @@ mode_of_shown : (n : Space) (p : ObjectPath) (k : ModeKind) (on : Elab (List Fau
 mode_of_shown n p k on None = simp least_append refl
 mode_of_shown n p k on (Some x) = mode_on_shown n.made p k x (spec.mode_member k n x.1 p.rest) on
 
-moded_shown : (n : Space) (m : ModeTree) → shown_stmt (spec.moded all n m) ≡ spec.moded first_one n m
-moded_shown n m =
+mode_stmt_shown : (n : Space) (m : ModeTree) → shown_stmt (spec.mode_stmt all n m) ≡ spec.mode_stmt first_one n m
+mode_stmt_shown n m =
     mode_of_shown n (object_path n m.path) m.kind (value all n m.on) (object_path n m.path).object
     ∙ ap (λ (u : Elab (Option Fault)). spec.mode_of first_one n (object_path n m.path) m.kind u (object_path n m.path).object) (value_shown n m.on)
 
 -- ---- lists and repetition
 
-repeated_shown : (c : Constant (List Fault)) (s : StmtElab (List Fault)) → shown_stmt (spec.repeated all c s) ≡ spec.repeated first_one (shown_constant c) (shown_stmt s)
-repeated_shown c s = simp least_append refl
+repeat_stmt_shown : (c : Constant (List Fault)) (s : StmtElab (List Fault)) → shown_stmt (spec.repeat_stmt all c s) ≡ spec.repeat_stmt first_one (shown_constant c) (shown_stmt s)
+repeat_stmt_shown c s = simp least_append refl
 
 pub and_stmt_shown : (ss : StmtsElab (List Fault)) (s : StmtElab (List Fault)) → shown_stmts (spec.and_stmt all ss s) ≡ spec.and_stmt first_one (shown_stmts ss) (shown_stmt s)
 and_stmt_shown ss s = simp least_append refl
@@ -160,23 +160,23 @@ and_stmt_shown ss s = simp least_append refl
 assignment_shown : (n : Space) (x : Elab (List Fault)) (r : RightTree) → shown_stmt (spec.assignment all n x r) ≡ spec.assignment first_one n (shown x) r
 assignment_shown n x (tree.value e) = given_shown x (elab all n e) ∙ ap (spec.given first_one (shown x)) (elab_shown n e)
 assignment_shown n x (tree.new parens) = made_shown x
-assignment_shown n x (tree.new_array e) = resized_shown x (constant_at all n e) ∙ ap (spec.resized first_one (shown x)) (constant_at_shown n e)
+assignment_shown n x (tree.new_array e) = resize_stmt_shown x (constant_at all n e) ∙ ap (spec.resize_stmt first_one (shown x)) (constant_at_shown n e)
 assignment_shown n x (tree.pattern at vs) =
-    patterned_shown x at (spec.values all n x.form.members (spec.no_values all) vs)
-    ∙ ap (spec.patterned first_one (shown x) at) (values_shown n x.form.members (spec.no_values all) vs)
+    pattern_stmt_shown x at (spec.values all n x.form.members (spec.no_values all) vs)
+    ∙ ap (spec.pattern_stmt first_one (shown x) at) (values_shown n x.form.members (spec.no_values all) vs)
 assignment_shown n x (tree.answer c) = answered_shown n x c
 
 mutual
   pub stmt_shown : (n : Space) (s : StmtTree) → shown_stmt (spec.stmt all n s) ≡ spec.stmt first_one n s
   stmt_shown n (tree.empty at) = refl
-  stmt_shown n (tree.block at ss) = ap (spec.grouped first_one) (stmts_shown n (spec.no_stmts all n.made) ss)
+  stmt_shown n (tree.block at ss) = ap (spec.block_stmt first_one) (stmts_shown n (spec.no_stmts all n.made) ss)
   stmt_shown n (tree.repeat at e s) =
-      repeated_shown (constant_at all n e) (spec.stmt all n s)
-      ∙ ap (λ (u : Constant (Option Fault)). spec.repeated first_one u (shown_stmt (spec.stmt all n s))) (constant_at_shown n e)
-      ∙ ap (λ (u : StmtElab (Option Fault)). spec.repeated first_one (constant_at first_one n e) u) (stmt_shown n s)
+      repeat_stmt_shown (constant_at all n e) (spec.stmt all n s)
+      ∙ ap (λ (u : Constant (Option Fault)). spec.repeat_stmt first_one u (shown_stmt (spec.stmt all n s))) (constant_at_shown n e)
+      ∙ ap (λ (u : StmtElab (Option Fault)). spec.repeat_stmt first_one (constant_at first_one n e) u) (stmt_shown n s)
   stmt_shown n (tree.assign at x r) = assignment_shown n (elab all n x) r ∙ ap (λ (u : Elab (Option Fault)). spec.assignment first_one n u r) (elab_shown n x)
   stmt_shown n (tree.call at form c) = randomized_shown n None c
-  stmt_shown n (tree.mode at m) = moded_shown n m
+  stmt_shown n (tree.mode at m) = mode_stmt_shown n m
 
   pub stmts_shown : (n : Space) (ss : StmtsElab (List Fault)) (rest : StmtTrees) → shown_stmts (spec.stmts all n ss rest) ≡ spec.stmts first_one n (shown_stmts ss) rest
   stmts_shown n ss tree.no_stmts = refl

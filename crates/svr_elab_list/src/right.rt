@@ -20,7 +20,7 @@ use std::alloc::Global;
 use svr_elab_expr::{beside, elab};
 use svr_elab_names::NameSpace;
 use svr_elab_part::{Form, Part};
-use svr_elab_stmt::{StmtPart, given, made_new, patterned, resized, values};
+use svr_elab_stmt::{StmtPart, given, made_new, pattern_stmt, resize_stmt, values};
 use svr_elab_target::{Target, answer_fault};
 use svr_elab_type::constant_at;
 use svr_tree::{Expr, RandomizeCall, RightSide};
@@ -44,7 +44,7 @@ fn given_at(
 }
 
 /// `target = new[size]`
-fn resized_at(
+fn resize_at(
     alloc: Global,
     target: Part,
     size: &Expr,
@@ -53,15 +53,15 @@ fn resized_at(
     requires vars { length names.now.vars.now.entries < 2 ^ 32 }
     requires members { MembersFit (space_of names.now) }
     requires fits { ExprFits (length names.now.loops.now) (expr_tree size.now) }
-    ensures value { IfOk result (λ s. stmt_part s ≡ spec.resized first_one (part_of target) (types.constant_at first_one (space_of names.now) (expr_tree size.now))) }
+    ensures value { IfOk result (λ s. stmt_part s ≡ spec.resize_stmt first_one (part_of target) (types.constant_at first_one (space_of names.now) (expr_tree size.now))) }
     ensures once { IfOk result (λ s. s.count ≡ 1) }
 {
     let (target, right) = beside(target, constant_at(alloc, size, names))?;
-    Ok(resized(target, right))
+    Ok(resize_stmt(target, right))
 }
 
 /// `target = '{ list }`
-fn patterned_at(
+fn pattern_at(
     alloc: Global,
     target: Part,
     at: u32,
@@ -72,12 +72,12 @@ fn patterned_at(
     requires members { MembersFit (space_of names.now) }
     requires fits { ValuesFit (length names.now.loops.now) (expr_trees list.now) }
     requires many { values_in (expr_trees list.now) < 2 ^ 32 }
-    ensures value { IfOk result (λ s. stmt_part s ≡ spec.patterned first_one (part_of target) at (spec.values first_one (space_of names.now) target.form.members (spec.no_values first_one) (expr_trees list.now))) }
+    ensures value { IfOk result (λ s. stmt_part s ≡ spec.pattern_stmt first_one (part_of target) at (spec.values first_one (space_of names.now) target.form.members (spec.no_values first_one) (expr_trees list.now))) }
     ensures once { IfOk result (λ s. s.count ≡ 1) }
 {
     let right = values(alloc, list, target.form.members, names);
     let (target, right) = beside(target, right)?;
-    Ok(patterned(target, at, right))
+    Ok(pattern_stmt(target, at, right))
 }
 
 /// The variable that takes an answer.
@@ -123,9 +123,9 @@ fn assignment(
     match right {
         RightSide::Value(e) => given_at(alloc, target, e, names),
         RightSide::New { .. } => Ok(made_new(target)),
-        RightSide::NewArray(size) => resized_at(alloc, target, size, names),
+        RightSide::NewArray(size) => resize_at(alloc, target, size, names),
         RightSide::Pattern { at, values: list } => {
-            patterned_at(alloc, target, *at, list.as_slice(), names)
+            pattern_at(alloc, target, *at, list.as_slice(), names)
         }
         RightSide::Call(call) => answered(alloc, target, call, names),
     }

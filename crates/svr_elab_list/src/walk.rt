@@ -1,6 +1,7 @@
 // Statements, in one walk.
 
-ghost use Rattle.std.specs.Prelude.{◌≡◌, ◌<◌, ◌≤◌, ◌^◌, ◌<ℤ◌, pos, length, take, Some, None, IfOk, IfSome};
+ghost use Rattle.std.specs.Prelude.{◌≡◌, ◌<◌, ◌≤◌, ◌+◌, ◌^◌, ◌<ℤ◌, pos, length, take, Some, None, IfOk, IfSome};
+ghost use Rattle.svr_limits.specs.declared.limit.TheConstants.{STATEMENT_LIMIT};
 ghost use Rattle.svr_typed.specs.StmtTerm as stmt_term_of;
 ghost use Rattle.svr_tree.specs.ExprTree.{expr_tree};
 ghost use Rattle.svr_tree.specs.StmtTree.{stmt_tree, stmt_trees, right_tree, randomize_tree, mode_tree};
@@ -23,7 +24,7 @@ use sqlite_items::Items;
 use std::alloc::Global;
 use svr_elab_expr::both;
 use svr_elab_names::NameSpace;
-use svr_elab_stmt::{StmtPart, StmtsPart, and_stmt, grouped, moded, no_stmts, repeated};
+use svr_elab_stmt::{StmtPart, StmtsPart, and_stmt, block_stmt, mode_stmt, no_stmts, repeat_stmt};
 use svr_elab_target::{and_made, with_made};
 use svr_elab_type::{Constant, constant_at};
 use svr_tree::{Expr, ModeCall, RandomizeCall, RightSide, Stmt};
@@ -81,11 +82,11 @@ fn mode_made(
     requires members { MembersFit (space_of names.now) }
     requires blocks { BlocksFit (space_of names.now) }
     requires fits { ModeFits (length names.now.loops.now) (mode_tree mode.now) }
-    ensures value { IfOk result (λ s. stmt_part s ≡ spec.moded first_one (spec.with_made (space_of names.now) made.now.keys) (mode_tree mode.now)) }
+    ensures value { IfOk result (λ s. stmt_part s ≡ spec.mode_stmt first_one (spec.with_made (space_of names.now) made.now.keys) (mode_tree mode.now)) }
     ensures once { IfOk result (λ s. s.count ≡ 1) }
 {
     let inside = with_made(names, made);
-    let part = moded(alloc, mode, &inside)?;
+    let part = mode_stmt(alloc, mode, &inside)?;
     Ok(part)
 }
 
@@ -114,10 +115,10 @@ pub fn and_next(
     part: StmtsPart,
     next: StmtPart,
 ) -> Result<StmtsPart, NoMemory>
-    requires before { part.count ≤ 100001 }
-    requires next { next.count ≤ 100001 }
+    requires before { part.count ≤ STATEMENT_LIMIT + 1 }
+    requires next { next.count ≤ STATEMENT_LIMIT + 1 }
     ensures value { IfOk result (λ p. stmts_part made.new.keys p ≡ spec.and_stmt first_one (stmts_part made.old.keys part) (stmt_part next)) }
-    ensures most { IfOk result (λ p. p.count ≤ 100001) }
+    ensures most { IfOk result (λ p. p.count ≤ STATEMENT_LIMIT + 1) }
     ensures keys { IfOk result (λ p. made.new.keys ≡ spec.and_made made.old.keys next.makes) }
 {
     let grown = and_made(made, next.makes);
@@ -128,7 +129,7 @@ pub fn and_next(
 /// A statement that does nothing.
 fn empty(alloc: Global) -> StmtPart
     ensures value { stmt_part result ≡ spec.one_stmt first_one (Some (stmt_term_of.list stmt_term_of.no_stmts)) None }
-    ensures most { result.count ≤ 100001 }
+    ensures most { result.count ≤ STATEMENT_LIMIT + 1 }
 {
     StmtPart {
         tree: Some(TStmt::list(Items::new(alloc))),
@@ -151,7 +152,7 @@ pub fn stmt(
     requires blocks { BlocksFit (space_of names.now) }
     requires fits { StmtFits (length names.now.loops.now) (stmt_tree stmt.now) }
     ensures value { IfOk result (λ s. stmt_part s ≡ spec.stmt first_one (spec.with_made (space_of names.now) made.old.keys) (stmt_tree stmt.now)) }
-    ensures most { IfOk result (λ s. s.count ≤ 100001) }
+    ensures most { IfOk result (λ s. s.count ≤ STATEMENT_LIMIT + 1) }
     ensures made { IfOk result (λ s. made.new.keys ≡ made.old.keys) }
 {
     match stmt {
@@ -176,14 +177,14 @@ fn block(
     requires members { MembersFit (space_of names.now) }
     requires blocks { BlocksFit (space_of names.now) }
     requires fits { StmtsFit (length names.now.loops.now) (stmt_trees list.now) }
-    ensures value { IfOk result (λ s. stmt_part s ≡ spec.grouped first_one (spec.stmts first_one (spec.with_made (space_of names.now) made.old.keys) (spec.no_stmts first_one made.old.keys) (stmt_trees list.now))) }
-    ensures most { IfOk result (λ s. s.count ≤ 100001) }
+    ensures value { IfOk result (λ s. stmt_part s ≡ spec.block_stmt first_one (spec.stmts first_one (spec.with_made (space_of names.now) made.old.keys) (spec.no_stmts first_one made.old.keys) (stmt_trees list.now))) }
+    ensures most { IfOk result (λ s. s.count ≤ STATEMENT_LIMIT + 1) }
     ensures made { IfOk result (λ s. made.new.keys ≡ made.old.keys) }
 {
     let before = made.len();
     let part = stmts(alloc, list, names, made)?;
     made.truncate(before);
-    Ok(grouped(part))
+    Ok(block_stmt(part))
 }
 
 /// `repeat (count) body`
@@ -200,13 +201,13 @@ fn repetition(
     requires blocks { BlocksFit (space_of names.now) }
     requires count { ExprFits (length names.now.loops.now) (expr_tree count.now) }
     requires fits { StmtFits (length names.now.loops.now) (stmt_tree body.now) }
-    ensures value { IfOk result (λ s. stmt_part s ≡ spec.repeated first_one (types.constant_at first_one (spec.with_made (space_of names.now) made.old.keys) (expr_tree count.now)) (spec.stmt first_one (spec.with_made (space_of names.now) made.old.keys) (stmt_tree body.now))) }
-    ensures most { IfOk result (λ s. s.count ≤ 100001) }
+    ensures value { IfOk result (λ s. stmt_part s ≡ spec.repeat_stmt first_one (types.constant_at first_one (spec.with_made (space_of names.now) made.old.keys) (expr_tree count.now)) (spec.stmt first_one (spec.with_made (space_of names.now) made.old.keys) (stmt_tree body.now))) }
+    ensures most { IfOk result (λ s. s.count ≤ STATEMENT_LIMIT + 1) }
     ensures made { IfOk result (λ s. made.new.keys ≡ made.old.keys) }
 {
     let times = count_made(alloc, count, names, made)?;
     let inner = stmt(alloc, body, names, made)?;
-    let part = repeated(alloc, times, inner)?;
+    let part = repeat_stmt(alloc, times, inner)?;
     Ok(part)
 }
 
@@ -223,7 +224,7 @@ pub fn stmts(
     requires blocks { BlocksFit (space_of names.now) }
     requires fits { StmtsFit (length names.now.loops.now) (stmt_trees list.now) }
     ensures value { IfOk result (λ ss. stmts_part made.new.keys ss ≡ spec.stmts first_one (space_of names.now) (spec.no_stmts first_one made.old.keys) (stmt_trees list.now)) }
-    ensures most { IfOk result (λ ss. ss.count ≤ 100001) }
+    ensures most { IfOk result (λ ss. ss.count ≤ STATEMENT_LIMIT + 1) }
     ensures before { IfOk result (λ ss. take (length made.old.keys) made.new.keys ≡ made.old.keys) }
 {
     let mut part = no_stmts(alloc);

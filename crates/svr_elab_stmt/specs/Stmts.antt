@@ -1,5 +1,6 @@
 -- Statements, typed, with their refusals (IEEE 1800-2017, clauses 8.7, 10, 12 and 18).
 use Rattle.std.specs.Prelude.{ℕ, ◌+◌, ◌*◌, min, nat_eq, nat_lt, ℤ, pos, Bool, true, false, not, if◌then◌else◌, List, [], Option, Some, None, option_map}
+use Rattle.svr_limits.specs.declared.limit.TheConstants.{ELEMENT_LIMIT, STATEMENT_LIMIT}
 use Rattle.svr_typed.specs.declared.CallList.{CallList}
 use Rattle.svr_typed.specs.ExprTerm as term
 use Rattle.svr_typed.specs.ExprTerm.{ExprTerm, NodeTerm, typed}
@@ -31,7 +32,7 @@ use Rattle.svr_elab_target.specs.declared.target.Target.TheVariants as target
 use Rattle.svr_elab_target.specs.Targets.{target_of, is_object, is_settable, is_resizable, is_array, answer_number, object_number, array_dims}
 pub use Rattle.svr_elab_target.specs.Named.{ObjectPath, and_made, with_made, object_path, call_list_of, in_line_with, in_line_space, mode_member, wrong_member, wrong_rest, unknown_at, misplaced, use_faults, list_faults, answer_faults}
 
--- `makes`: the object variable that has an object behind the statement, where it is `new`; `count`: how many statements run, where over 100,000 count as 100,001
+-- `makes`: the object variable that has an object behind the statement, where it is `new`; `count`: how many statements run, where more than `STATEMENT_LIMIT` count as one more
 pub record StmtElab (F : Type 0) : Type 0 where
   pub tree : Option StmtTerm
   pub faults : F
@@ -54,7 +55,7 @@ pub record ValuesElab (F : Type 0) : Type 0 where
 -- ---- how many statements run
 
 abbrev pub capped : ℕ → ℕ
-capped n = min n 100001
+capped n = min n (STATEMENT_LIMIT + 1)
 
 -- a body whose count has no value counts once
 abbrev pub times : Option ℤ → ℕ
@@ -173,10 +174,10 @@ module _ {F : Type 0} (g : Gather F) where
 
   -- what a size itself is refused for
   abbrev pub size_faults : Constant F → F
-  size_faults c = g.both (when g (is_below (pos 0) c.number) c.at refusal.BadRange) (when g (is_above (pos 2048) c.number) c.at refusal.TooMany)
+  size_faults c = g.both (when g (is_below (pos 0) c.number) c.at refusal.BadRange) (when g (is_above (pos ELEMENT_LIMIT) c.number) c.at refusal.TooMany)
 
-  abbrev pub resized : Elab F → Constant F → StmtElab F
-  resized x c =
+  abbrev pub resize_stmt : Elab F → Constant F → StmtElab F
+  resize_stmt x c =
       one_stmt (resize_tree (target_of x.form) c.number)
       (g.both x.faults (g.both c.faults (g.both (misplaced g x.form (is_resizable (target_of x.form))) (size_faults c))))
 
@@ -197,7 +198,7 @@ module _ {F : Type 0} (g : Gather F) where
 
   -- what so many values, whose first token is `at`, are refused for by the dimensions of the array
   abbrev pub count_faults : Dims → ℕ → ℕ → F
-  count_faults ds at many = g.both (when g (has_other_size ds many) at refusal.BadRange) (when g (nat_lt 2048 many) at refusal.TooMany)
+  count_faults ds at many = g.both (when g (has_other_size ds many) at refusal.BadRange) (when g (nat_lt ELEMENT_LIMIT many) at refusal.TooMany)
 
   -- what a pattern of so many values is refused for by the array
   abbrev pub pattern_faults : Form → ℕ → ℕ → F
@@ -205,8 +206,8 @@ module _ {F : Type 0} (g : Gather F) where
       g.both (misplaced g f (is_array (target_of f)))
       (g.both (when g (has_rows (array_dims (target_of f))) f.name refusal.LeftOut) (count_faults (array_dims (target_of f)) at many))
 
-  abbrev pub patterned : Elab F → ℕ → ValuesElab F → StmtElab F
-  patterned x at vs = one_stmt (pattern_tree (target_of x.form) vs.trees) (g.both x.faults (g.both vs.faults (pattern_faults x.form at vs.many)))
+  abbrev pub pattern_stmt : Elab F → ℕ → ValuesElab F → StmtElab F
+  pattern_stmt x at vs = one_stmt (pattern_tree (target_of x.form) vs.trees) (g.both x.faults (g.both vs.faults (pattern_faults x.form at vs.many)))
 
   -- ---- calls of `randomize` (18.6, 18.7 and 18.11)
 
@@ -245,21 +246,21 @@ module _ {F : Type 0} (g : Gather F) where
   mode_of n p k on None = one_stmt None (g.both (use_faults g n.made p.first None) on.faults)
   mode_of n p k on (Some x) = mode_on n.made p k x (mode_member k n x.1 p.rest) on
 
-  abbrev pub moded : Space → ModeTree → StmtElab F
-  moded n m = mode_of n (object_path n m.path) m.kind (value g n m.on) (object_path n m.path).object
+  abbrev pub mode_stmt : Space → ModeTree → StmtElab F
+  mode_stmt n m = mode_of n (object_path n m.path) m.kind (value g n m.on) (object_path n m.path).object
 
   -- ---- lists and repetition (9.3.1 and 12.7.1); an object that is made in one is there in it alone
 
-  abbrev pub repeated : Constant F → StmtElab F → StmtElab F
-  repeated c s = record {
+  abbrev pub repeat_stmt : Constant F → StmtElab F → StmtElab F
+  repeat_stmt c s = record {
     tree = repeat_tree c.number s.tree;
     faults = g.both c.faults s.faults;
     makes = None;
     count = capped (1 + times c.number * s.count);
   }
 
-  abbrev pub grouped : StmtsElab F → StmtElab F
-  grouped ss = record { tree = list_tree ss.trees; faults = ss.faults; makes = None; count = capped (1 + ss.count) }
+  abbrev pub block_stmt : StmtsElab F → StmtElab F
+  block_stmt ss = record { tree = list_tree ss.trees; faults = ss.faults; makes = None; count = capped (1 + ss.count) }
 
   abbrev pub no_stmts : List ℕ → StmtsElab F
   no_stmts made = record { trees = Some []; faults = g.nothing; made = made; count = 0 }
@@ -278,18 +279,18 @@ module _ {F : Type 0} (g : Gather F) where
   abbrev pub assignment : Space → Elab F → RightTree → StmtElab F
   assignment n x (tree.value e) = given x (elab g n e)
   assignment n x (tree.new parens) = made_new x
-  assignment n x (tree.new_array e) = resized x (constant_at g n e)
-  assignment n x (tree.pattern at vs) = patterned x at (values n x.form.members no_values vs)
+  assignment n x (tree.new_array e) = resize_stmt x (constant_at g n e)
+  assignment n x (tree.pattern at vs) = pattern_stmt x at (values n x.form.members no_values vs)
   assignment n x (tree.answer c) = answered n x c
 
   abbrev mutual
     pub stmt : Space → StmtTree → StmtElab F
     stmt n (tree.empty at) = one_stmt (Some (stmt_term.list stmt_term.no_stmts)) g.nothing
-    stmt n (tree.block at ss) = grouped (stmts n (no_stmts n.made) ss)
-    stmt n (tree.repeat at e s) = repeated (constant_at g n e) (stmt n s)
+    stmt n (tree.block at ss) = block_stmt (stmts n (no_stmts n.made) ss)
+    stmt n (tree.repeat at e s) = repeat_stmt (constant_at g n e) (stmt n s)
     stmt n (tree.assign at x r) = assignment n (elab g n x) r
     stmt n (tree.call at form c) = randomized n None c
-    stmt n (tree.mode at m) = moded n m
+    stmt n (tree.mode at m) = mode_stmt n m
 
     -- statements behind those that `ss` tells of
     pub stmts : Space → StmtsElab F → StmtTrees → StmtsElab F

@@ -1,6 +1,6 @@
 // Assignments by what is known of their sides (IEEE 1800-2017, 8.7, 10.4, 7.5.1 and 10.9.1).
 
-ghost use Rattle.std.specs.Prelude.{◌≡◌};
+ghost use Rattle.std.specs.Prelude.{◌≡◌, pos};
 ghost use Rattle.svr_elab_fault.specs.Refusals.{first_one};
 ghost use Rattle.svr_elab_part.specs.Elab as elab_spec;
 ghost use Rattle.svr_elab_part.specs.Seen.{part_of};
@@ -18,6 +18,7 @@ use svr_elab_names::Dims;
 use svr_elab_part::{Form, Part};
 use svr_elab_target::{Target, array_fault, object_fault, resizable_fault, settable_fault};
 use svr_elab_type::{Constant, is_below};
+use svr_limits::ELEMENT_LIMIT;
 use svr_refusal::Refusal;
 
 /// Whether a value for an enum is none of it, by its form.
@@ -117,12 +118,12 @@ pub fn made_new(target: Part) -> StmtPart
     }
 }
 
-fn is_above(most: i128, number: Option<i128>) -> bool
-    ensures { result ≡ spec.is_above most number }
+fn is_above(most: u32, number: Option<i128>) -> bool
+    ensures { result ≡ spec.is_above (pos most) number }
 {
     match number {
         None => false,
-        Some(number) => most < number,
+        Some(number) => i128::from(most) < number,
     }
 }
 
@@ -131,13 +132,17 @@ fn size_fault(size: Constant) -> Option<Fault>
     ensures { result ≡ spec.size_faults first_one (constant_part size) }
 {
     let low = when(is_below(0, size.number), size.at, Refusal::BadRange);
-    let high = when(is_above(2048, size.number), size.at, Refusal::TooMany);
+    let high = when(
+        is_above(ELEMENT_LIMIT, size.number),
+        size.at,
+        Refusal::TooMany,
+    );
     earlier(low, high)
 }
 
 /// `target = new[size]`
-pub fn resized(target: Part, size: Constant) -> StmtPart
-    ensures value { stmt_part result ≡ spec.resized first_one (part_of target) (constant_part size) }
+pub fn resize_stmt(target: Part, size: Constant) -> StmtPart
+    ensures value { stmt_part result ≡ spec.resize_stmt first_one (part_of target) (constant_part size) }
     ensures once { result.count ≡ 1 }
 {
     let named = Target::of(target.form);
@@ -186,7 +191,7 @@ fn count_fault(dims: Dims, at: u32, many: u32) -> Option<Fault>
     ensures { result ≡ spec.count_faults first_one dims at many }
 {
     let other = when(has_other_size(dims, many), at, Refusal::BadRange);
-    let long = when(2048 < many, at, Refusal::TooMany);
+    let long = when(ELEMENT_LIMIT < many, at, Refusal::TooMany);
     earlier(other, long)
 }
 
@@ -202,8 +207,8 @@ fn pattern_fault(form: Form, at: u32, many: u32) -> Option<Fault>
 }
 
 /// `target = '{ values }`, `at` being the first token of the pattern.
-pub fn patterned(target: Part, at: u32, values: ValuesPart) -> StmtPart
-    ensures value { stmt_part result ≡ spec.patterned first_one (part_of target) at (values_part values) }
+pub fn pattern_stmt(target: Part, at: u32, values: ValuesPart) -> StmtPart
+    ensures value { stmt_part result ≡ spec.pattern_stmt first_one (part_of target) at (values_part values) }
     ensures once { result.count ≡ 1 }
 {
     let named = Target::of(target.form);

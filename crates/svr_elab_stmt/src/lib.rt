@@ -11,9 +11,9 @@ mod part;
 mod pattern;
 mod set;
 
-pub use assignment::{given, made_new, patterned, resized};
+pub use assignment::{given, made_new, pattern_stmt, resize_stmt};
 pub use call::{call_on, call_on_none};
-pub use list::{and_stmt, grouped, no_stmts, repeated};
-pub use mode::moded;
+pub use list::{and_stmt, block_stmt, no_stmts, repeat_stmt};
+pub use mode::mode_stmt;
 pub use part::{StmtPart, StmtsPart, ValuesPart};
 pub use pattern::values;

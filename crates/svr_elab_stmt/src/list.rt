@@ -14,15 +14,16 @@ use std::alloc::Global;
 use svr_elab_fault::earlier;
 use svr_elab_form::pushed;
 use svr_elab_type::{Constant, elements};
+use svr_limits::STATEMENT_LIMIT;
 use svr_typed::{NoMemory, TStmt};
 
-/// How many statements run, where over 100,000 count as 100,001.
+/// How many statements run, where more than `STATEMENT_LIMIT` count as one more.
 fn capped(count: u128) -> u32
     ensures value { result ≡ spec.capped count }
-    ensures most { result ≤ 100001 }
+    ensures most { result ≤ STATEMENT_LIMIT + 1 }
 {
-    if 100_001 < count {
-        100_001
+    if u128::from(STATEMENT_LIMIT) < count {
+        STATEMENT_LIMIT + 1
     } else {
         count as u32
     }
@@ -56,7 +57,7 @@ fn repeat(
 #[tactic(auto, using(crate::proofs::Forms::product_fits, crate::proofs::Forms::product_small))]
 fn product(times: u128, body: u32) -> u128
     requires times { times < 2 ^ 64 }
-    requires body { body ≤ 100001 }
+    requires body { body ≤ STATEMENT_LIMIT + 1 }
     ensures value { result ≡ times * body }
     ensures small { result < 2 ^ 127 }
 {
@@ -66,19 +67,19 @@ fn product(times: u128, body: u32) -> u128
 /// How many statements run where a body is repeated.
 fn runs_of(times: u128, body: u32) -> u32
     requires times { times < 2 ^ 64 }
-    requires body { body ≤ 100001 }
+    requires body { body ≤ STATEMENT_LIMIT + 1 }
     ensures value { result ≡ spec.capped (1 + times * body) }
-    ensures most { result ≤ 100001 }
+    ensures most { result ≤ STATEMENT_LIMIT + 1 }
 {
     capped(1 + product(times, body))
 }
 
 /// `repeat (count) body`
-pub fn repeated(alloc: Global, count: Constant, body: StmtPart) -> Result<StmtPart, NoMemory>
+pub fn repeat_stmt(alloc: Global, count: Constant, body: StmtPart) -> Result<StmtPart, NoMemory>
     requires count { IfSome count.number (λ n. n <ℤ pos (2 ^ 64)) }
-    requires body { body.count ≤ 100001 }
-    ensures value { IfOk result (λ s. stmt_part s ≡ spec.repeated first_one (constant_part count) (stmt_part body)) }
-    ensures most { IfOk result (λ s. s.count ≤ 100001) }
+    requires body { body.count ≤ STATEMENT_LIMIT + 1 }
+    ensures value { IfOk result (λ s. stmt_part s ≡ spec.repeat_stmt first_one (constant_part count) (stmt_part body)) }
+    ensures most { IfOk result (λ s. s.count ≤ STATEMENT_LIMIT + 1) }
 {
     let runs = runs_of(times(count.number), body.count);
     let fault = earlier(count.fault, body.fault);
@@ -100,10 +101,10 @@ fn list(trees: Option<Items<TStmt>>) -> Option<TStmt>
 }
 
 /// `begin list end`
-pub fn grouped(body: StmtsPart) -> StmtPart
-    requires { body.count ≤ 100001 }
-    ensures value { stmt_part result ≡ spec.grouped first_one (stmts_part [] body) }
-    ensures most { result.count ≤ 100001 }
+pub fn block_stmt(body: StmtsPart) -> StmtPart
+    requires { body.count ≤ STATEMENT_LIMIT + 1 }
+    ensures value { stmt_part result ≡ spec.block_stmt first_one (stmts_part [] body) }
+    ensures most { result.count ≤ STATEMENT_LIMIT + 1 }
 {
     let count = capped(1 + u128::from(body.count));
     StmtPart {
@@ -117,7 +118,7 @@ pub fn grouped(body: StmtsPart) -> StmtPart
 /// No statements.
 pub fn no_stmts(alloc: Global) -> StmtsPart
     ensures value { (made : List ℕ) → stmts_part made result ≡ spec.no_stmts first_one made }
-    ensures most { result.count ≤ 100001 }
+    ensures most { result.count ≤ STATEMENT_LIMIT + 1 }
 {
     StmtsPart {
         trees: Some(Items::new(alloc)),
@@ -140,10 +141,10 @@ fn and_tree(
 
 /// One more statement behind others.
 pub fn and_stmt(before: StmtsPart, stmt: StmtPart) -> Result<StmtsPart, NoMemory>
-    requires before { before.count ≤ 100001 }
-    requires stmt { stmt.count ≤ 100001 }
+    requires before { before.count ≤ STATEMENT_LIMIT + 1 }
+    requires stmt { stmt.count ≤ STATEMENT_LIMIT + 1 }
     ensures value { IfOk result (λ ss. (made : List ℕ) → stmts_part (spec.and_made made stmt.makes) ss ≡ spec.and_stmt first_one (stmts_part made before) (stmt_part stmt)) }
-    ensures most { IfOk result (λ ss. ss.count ≤ 100001) }
+    ensures most { IfOk result (λ ss. ss.count ≤ STATEMENT_LIMIT + 1) }
 {
     let count = capped(u128::from(before.count) + u128::from(stmt.count));
     let fault = earlier(before.fault, stmt.fault);

@@ -27,7 +27,7 @@ use svr_elab_target::{
 use svr_tree::{ModeCall, ModeKind};
 use svr_typed::{NoMemory, TExpr, TStmt};
 
-fn mode_stmt(kind: ModeKind, object: u32, member: Option<u32>, on: TExpr) -> TStmt
+fn typed_mode(kind: ModeKind, object: u32, member: Option<u32>, on: TExpr) -> TStmt
     ensures { stmt_term result ≡ spec.mode_term kind object member (expr_term on) }
 {
     match kind {
@@ -46,7 +46,7 @@ fn mode_tree_of(
 {
     match on {
         None => None,
-        Some(on) => Some(mode_stmt(kind, object, member, on)),
+        Some(on) => Some(typed_mode(kind, object, member, on)),
     }
 }
 
@@ -116,7 +116,7 @@ fn mode_of(path: ObjectPath<'_>, kind: ModeKind, on: Part, names: &NameSpace<'_,
 }
 
 /// `path.rand_mode(on)` or `path.constraint_mode(on)`
-pub fn moded(
+pub fn mode_stmt(
     alloc: Global,
     mode: &ModeCall,
     names: &NameSpace<'_, '_>,
@@ -125,7 +125,7 @@ pub fn moded(
     requires members { MembersFit (space_of names.now) }
     requires blocks { BlocksFit (space_of names.now) }
     requires fits { ModeFits (length names.now.loops.now) (mode_tree mode.now) }
-    ensures value { IfOk result (λ s. stmt_part s ≡ spec.moded first_one (space_of names.now) (mode_tree mode.now)) }
+    ensures value { IfOk result (λ s. stmt_part s ≡ spec.mode_stmt first_one (space_of names.now) (mode_tree mode.now)) }
     ensures once { IfOk result (λ s. s.count ≡ 1) }
 {
     let on = value(alloc, &mode.on, names)?;

@@ -17,7 +17,7 @@ pub struct StmtPart {
     pub fault: Option<Fault>,
     /// The object variable that has an object behind it, where it is `new`.
     pub makes: Option<u32>,
-    /// How many statements run, where over 100,000 count as 100,001.
+    /// How many statements run, where more than `STATEMENT_LIMIT` count as one more.
     pub count: u32,
 }
 
@@ -26,7 +26,7 @@ pub struct StmtPart {
 pub struct StmtsPart {
     pub trees: Option<Items<TStmt>>,
     pub fault: Option<Fault>,
-    /// How many statements run, where over 100,000 count as 100,001.
+    /// How many statements run, where more than `STATEMENT_LIMIT` count as one more.
     pub count: u32,
 }
 

@@ -4,6 +4,7 @@ use denote.Ref.{Bor}
 use Rattle.std.specs.Option.{option_copied}
 use Rattle.std.specs.Map.{lookup}
 use Rattle.indexmap.specs.IndexMap.{insert_entry}
+use Rattle.svr_limits.specs.declared.limit.TheConstants.{VARIABLE_LIMIT}
 use Rattle.svr_refusal.specs.declared.Refusal.TheVariants as refusal
 use Rattle.svr_elab_fault.specs.declared.Fault.{Fault}
 use Rattle.svr_elab_fault.specs.Refusals.{first_one, earlier, when}
@@ -32,7 +33,7 @@ module _ (k : Key) where
   found es (Some x) b e h = h ∙ ap is_some e
 
   pub refused_is : (es : List (Key × VarStand)) (g : Option (Bor VarStand)) (b many : Bool) (before name : ℕ) (d m f : Option Fault)
-      → option_copied g ≡ lookup is_key es → b ≡ is_some g → d ≡ when first_one b name refusal.DoubleName → many ≡ nat_le 4096 before → m ≡ when first_one many name refusal.TooMany → f ≡ earlier d m
+      → option_copied g ≡ lookup is_key es → b ≡ is_some g → d ≡ when first_one b name refusal.DoubleName → many ≡ nat_le VARIABLE_LIMIT before → m ≡ when first_one many name refusal.TooMany → f ≡ earlier d m
       → f ≡ name_faults first_one (map var_of es) before name k.now
   refused_is es g b many before name d m f e h is_d is_many is_m is_f =
       let there : b ≡ is_name (λ (v : VarName). v.name) k.now (map var_of es) = found es g b e h ∙ sym (is_there es) in

@@ -1,5 +1,6 @@
 -- The statements of a script: the values of its variables, and then those of the initial block (IEEE 1800-2017, 9.2.1).
 use Rattle.std.specs.Prelude.{ℕ, ◌+◌, nat_lt, not, ◌&&◌, Bool, List, [], ◌∷◌, ◌++◌}
+use Rattle.svr_limits.specs.declared.limit.TheConstants.{STATEMENT_LIMIT}
 use Rattle.svr_tree.specs.StmtTree as tree
 use Rattle.svr_tree.specs.StmtTree.{StmtTree}
 use Rattle.svr_tree.specs.ScriptTree.{UnitTree}
@@ -19,9 +20,9 @@ stmt_start (tree.assign at x r) = at
 stmt_start (tree.call at form c) = at
 stmt_start (tree.mode at m) = at
 
--- more than 100,000 statements run, and no more did before
+-- more than `STATEMENT_LIMIT` statements run, and no more did before
 abbrev pub passes_limit : ℕ → ℕ → Bool
-passes_limit before more = not (nat_lt 100000 before) && nat_lt 100000 (before + more)
+passes_limit before more = not (nat_lt STATEMENT_LIMIT before) && nat_lt STATEMENT_LIMIT (before + more)
 
 module _ {F : Type 0} (g : Gather F) where
   -- behind so many

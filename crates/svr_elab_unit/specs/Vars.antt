@@ -1,5 +1,6 @@
 -- The variables of a script: their types, and then their values as statements (IEEE 1800-2017, 6.8 and 8.3).
 use Rattle.std.specs.Prelude.{ℕ, ◌+◌, Bool, true, false, nat_le, min, not, if◌then◌else◌, List, [], ◌∷◌, ◌++◌, length, Option, Some, None}
+use Rattle.svr_limits.specs.declared.limit.TheConstants.{VARIABLE_LIMIT}
 use Rattle.svr_tree.specs.DeclTree as decl
 use Rattle.svr_tree.specs.DeclTree.{VarInitTree, VarDeclaratorTree, VarTree}
 use Rattle.svr_refusal.specs.declared.Refusal.TheVariants as refusal
@@ -13,7 +14,7 @@ use Rattle.svr_elab_part.specs.Elab.{Elab, elab, path_part}
 use Rattle.svr_elab_decl.specs.Properties.{Used, UsedElab, numbers, objects, unnamed, data_type}
 use Rattle.svr_elab_stmt.specs.Stmts.{StmtElab, StmtsElab, with_made, given, made_new, no_stmts, and_stmt}
 
--- the variables so far, each name once; what the variables of each declaration are; how many object variables there are, and how many others, where over 4,096 count as 4,096
+-- the variables so far, each name once; what the variables of each declaration are; how many object variables there are, and how many others, where more than `VARIABLE_LIMIT` count as that
 pub record VarsElab (F : Type 0) : Type 0 where
   pub vars : List VarName
   pub stands : List VarStand
@@ -44,7 +45,7 @@ of_sort is_object firsts seconds = if is_object then firsts else seconds
 
 -- and one more, where it is of this sort
 abbrev pub one_more : ℕ → Bool → ℕ
-one_more count is_one = min 4096 (if is_one then count + 1 else count)
+one_more count is_one = min VARIABLE_LIMIT (if is_one then count + 1 else count)
 
 -- values so far: the variables that are declared, and the assignments of their values
 pub record ValuedElab (F : Type 0) : Type 0 where
@@ -57,7 +58,7 @@ left_found number k = record { meaning = stand_meaning number k; unmade = None }
 module _ {F : Type 0} (g : Gather F) where
   -- `before`: how many variables of its sort there are
   abbrev pub name_faults : List VarName → ℕ → ℕ → List ℕ → F
-  name_faults vs before name q = g.both (when g (is_name (λ v. v.name) q vs) name refusal.DoubleName) (when g (nat_le 4096 before) name refusal.TooMany)
+  name_faults vs before name q = g.both (when g (is_name (λ v. v.name) q vs) name refusal.DoubleName) (when g (nat_le VARIABLE_LIMIT before) name refusal.TooMany)
 
   -- one more variable of the declaration
   abbrev pub and_var : VarsElab F → ℕ → List ℕ → VarStand → VarsElab F

@@ -22,6 +22,7 @@ use svr_elab_fault::{earlier, when};
 use svr_elab_list::{and_next, stmt};
 use svr_elab_names::{NameSpace, VarStand};
 use svr_elab_stmt::{StmtPart, StmtsPart, no_stmts};
+use svr_limits::STATEMENT_LIMIT;
 use svr_refusal::Refusal;
 use svr_tree::{Stmt, UnitDecl};
 use svr_typed::NoMemory;
@@ -37,21 +38,21 @@ fn stmt_start(stmt: &Stmt) -> u32
     }
 }
 
-/// Whether more than 100,000 statements run with this one, and no more did before.
+/// Whether more than `STATEMENT_LIMIT` statements run with this one, and no more did before.
 fn passes_limit(before: u32, more: u32) -> bool
-    requires before { before ≤ 100001 }
-    requires more { more ≤ 100001 }
+    requires before { before ≤ STATEMENT_LIMIT + 1 }
+    requires more { more ≤ STATEMENT_LIMIT + 1 }
     ensures { result ≡ spec.passes_limit before more }
 {
-    before <= 100_000 && 100_000 < before + more
+    before <= STATEMENT_LIMIT && STATEMENT_LIMIT < before + more
 }
 
 /// A statement of the initial block that begins at this token, behind so many.
 fn with_limit(at: u32, before: u32, stmt: StmtPart) -> StmtPart
-    requires before { before ≤ 100001 }
-    requires stmt { stmt.count ≤ 100001 }
+    requires before { before ≤ STATEMENT_LIMIT + 1 }
+    requires stmt { stmt.count ≤ STATEMENT_LIMIT + 1 }
     ensures value { stmt_part result ≡ spec.with_limit first_one at before (stmt_part stmt) }
-    ensures most { result.count ≤ 100001 }
+    ensures most { result.count ≤ STATEMENT_LIMIT + 1 }
 {
     let many = when(passes_limit(before, stmt.count), at, Refusal::TooMany);
     StmtPart {
@@ -69,10 +70,10 @@ fn and_top(
     at: u32,
     next: StmtPart,
 ) -> Result<StmtsPart, NoMemory>
-    requires before { part.count ≤ 100001 }
-    requires next { next.count ≤ 100001 }
+    requires before { part.count ≤ STATEMENT_LIMIT + 1 }
+    requires next { next.count ≤ STATEMENT_LIMIT + 1 }
     ensures value { IfOk result (λ p. stmts_part made.new.keys p ≡ spec.and_top first_one (stmts_part made.old.keys part) at (stmt_part next)) }
-    ensures most { IfOk result (λ p. p.count ≤ 100001) }
+    ensures most { IfOk result (λ p. p.count ≤ STATEMENT_LIMIT + 1) }
 {
     let within = with_limit(at, part.count, next);
     let all = and_next(made, part, within)?;
@@ -91,7 +92,7 @@ fn tops(
     requires members { MembersFit (space_of names.now) }
     requires blocks { BlocksFit (space_of names.now) }
     requires fits { AllStmtsFit (length names.now.loops.now) (map stmt_tree list.now) }
-    requires count { start.count ≤ 100001 }
+    requires count { start.count ≤ STATEMENT_LIMIT + 1 }
     ensures { IfOk result (λ ss. stmts_part made.new.keys ss ≡ spec.tops first_one (space_of names.now) (stmts_part made.old.keys start) (map stmt_tree list.now)) }
 {
     let mut part = start;
@@ -117,7 +118,7 @@ fn behind(stands: &[VarStand], count: usize) -> &[VarStand]
 /// No values.
 fn no_values<'a>(alloc: Global) -> ValuedPart<'a>
     ensures value { (made : List ℕ) → valued_part made result ≡ vars_spec.no_values first_one made }
-    ensures most { result.stmts.count ≤ 100001 }
+    ensures most { result.stmts.count ≤ STATEMENT_LIMIT + 1 }
     ensures length { length result.vars.entries ≡ 0 }
 {
     ValuedPart {
@@ -139,7 +140,7 @@ fn unit_values<'a>(
     requires outer { VarValuesFit (length names.now.loops.now) (map var_tree unit.now.outer) }
     requires inner { VarValuesFit (length names.now.loops.now) (map var_tree unit.now.inner) }
     ensures value { IfOk result (λ p. valued_part made.new.keys p ≡ vars_spec.decls_valued first_one (space_of names.now) (vars_spec.no_values first_one made.old.keys) stands.now (map var_tree unit.now.outer ++ map var_tree unit.now.inner)) }
-    ensures most { IfOk result (λ p. p.stmts.count ≤ 100001) }
+    ensures most { IfOk result (λ p. p.stmts.count ≤ STATEMENT_LIMIT + 1) }
 {
     let start = no_values(alloc);
     let outer = unit.outer.as_slice();

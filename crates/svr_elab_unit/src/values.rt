@@ -1,6 +1,7 @@
 // The values of variables, as statements (IEEE 1800-2017, 6.8 and 8.7).
 
 ghost use Rattle.std.specs.Prelude.{◌≡◌, ◌≤◌, ◌<◌, ◌+◌, ◌∷◌, ◌^◌, List, Some, drop, length, map, option_map, IfOk};
+ghost use Rattle.svr_limits.specs.declared.limit.TheConstants.{STATEMENT_LIMIT};
 ghost use Rattle.svr_tree.specs.ExprTree.{expr_tree};
 ghost use Rattle.svr_tree.specs.DeclTree.{VarTree, var_init_tree, var_declarator_tree, var_tree};
 ghost use Rattle.svr_elab_fault.specs.Refusals.{first_one};
@@ -141,9 +142,9 @@ fn and_init(
     requires vars { length names.now.vars.now.entries < 2 ^ 32 }
     requires members { MembersFit (space_of names.now) }
     requires fits { InitFits (length names.now.loops.now) (Some (var_init_tree init.now)) }
-    requires count { stmts.count ≤ 100001 }
+    requires count { stmts.count ≤ STATEMENT_LIMIT + 1 }
     ensures value { IfOk result (λ ss. stmts_part made.new.keys ss ≡ spec.and_value first_one (space_of names.now) (stmts_part made.old.keys stmts) var.name var.number var.stand (Some (var_init_tree init.now))) }
-    ensures most { IfOk result (λ ss. ss.count ≤ 100001) }
+    ensures most { IfOk result (λ ss. ss.count ≤ STATEMENT_LIMIT + 1) }
 {
     let stmt = init_made(alloc, var, init, names, made);
     let (stmts, stmt) = beside(stmts, stmt)?;
@@ -163,9 +164,9 @@ fn and_value(
     requires vars { length names.now.vars.now.entries < 2 ^ 32 }
     requires members { MembersFit (space_of names.now) }
     requires fits { InitFits (length names.now.loops.now) (option_map var_init_tree init.now) }
-    requires count { stmts.count ≤ 100001 }
+    requires count { stmts.count ≤ STATEMENT_LIMIT + 1 }
     ensures value { IfOk result (λ ss. stmts_part made.new.keys ss ≡ spec.and_value first_one (space_of names.now) (stmts_part made.old.keys stmts) var.name var.number var.stand (option_map var_init_tree init.now)) }
-    ensures most { IfOk result (λ ss. ss.count ≤ 100001) }
+    ensures most { IfOk result (λ ss. ss.count ≤ STATEMENT_LIMIT + 1) }
 {
     match init {
         None => Ok(stmts),
@@ -187,9 +188,9 @@ fn value_behind(
     requires vars { length vars.now.entries < 2 ^ 32 }
     requires members { MembersFit (space_of names.now) }
     requires fits { InitFits (length names.now.loops.now) (option_map var_init_tree init.now) }
-    requires count { stmts.count ≤ 100001 }
+    requires count { stmts.count ≤ STATEMENT_LIMIT + 1 }
     ensures value { IfOk result (λ ss. stmts_part made.new.keys ss ≡ spec.and_value first_one (spec.stmt_space (space_of names.now) (map var_of vars.now.entries)) (stmts_part made.old.keys stmts) var.name var.number var.stand (option_map var_init_tree init.now)) }
-    ensures most { IfOk result (λ ss. ss.count ≤ 100001) }
+    ensures most { IfOk result (λ ss. ss.count ≤ STATEMENT_LIMIT + 1) }
 {
     let inside = stmt_space(names, vars);
     let all = and_value(alloc, stmts, var, init, &inside, made)?;
@@ -208,9 +209,9 @@ fn valued<'a>(
     requires vars { length part.vars.entries + 1 < 2 ^ 32 }
     requires members { MembersFit (space_of names.now) }
     requires fits { InitFits (length names.now.loops.now) (option_map var_init_tree declarator.now.init) }
-    requires count { part.stmts.count ≤ 100001 }
+    requires count { part.stmts.count ≤ STATEMENT_LIMIT + 1 }
     ensures value { IfOk result (λ p. valued_part made.new.keys p ≡ spec.valued first_one (space_of names.now) (valued_part made.old.keys part.entry) stand (var_declarator_tree declarator.now)) }
-    ensures most { IfOk result (λ p. p.stmts.count ≤ 100001) }
+    ensures most { IfOk result (λ p. p.stmts.count ≤ STATEMENT_LIMIT + 1) }
     ensures length { IfOk result (λ p. length p.vars.entries ≤ length part.entry.vars.entries + 1) }
 {
     let number = part.vars.len() as u32;
@@ -240,9 +241,9 @@ fn all_valued<'a>(
     requires vars { length start.vars.entries + length list.now < 2 ^ 32 }
     requires members { MembersFit (space_of names.now) }
     requires fits { InitsFit (length names.now.loops.now) (map var_declarator_tree list.now) }
-    requires count { start.stmts.count ≤ 100001 }
+    requires count { start.stmts.count ≤ STATEMENT_LIMIT + 1 }
     ensures value { IfOk result (λ p. valued_part made.new.keys p ≡ spec.all_valued first_one (space_of names.now) (valued_part made.old.keys start.entry) stand (map var_declarator_tree list.now)) }
-    ensures most { IfOk result (λ p. p.stmts.count ≤ 100001) }
+    ensures most { IfOk result (λ p. p.stmts.count ≤ STATEMENT_LIMIT + 1) }
     ensures length { IfOk result (λ p. length p.vars.entries ≤ length start.entry.vars.entries + length list.now) }
 {
     let mut part = start;
@@ -265,9 +266,9 @@ fn decl_valued<'a>(
     requires vars { length part.vars.entries + length decl.now.vars < 2 ^ 32 }
     requires members { MembersFit (space_of names.now) }
     requires fits { InitsFit (length names.now.loops.now) (map var_declarator_tree decl.now.vars) }
-    requires count { part.stmts.count ≤ 100001 }
+    requires count { part.stmts.count ≤ STATEMENT_LIMIT + 1 }
     ensures value { IfOk result (λ p. (vs : List VarTree) → spec.decls_valued first_one (space_of names.now) (valued_part made.new.keys p) (drop (place + 1) stands.now) vs ≡ spec.decls_valued first_one (space_of names.now) (valued_part made.old.keys part.entry) (drop place stands.now) (var_tree decl.now ∷ vs)) }
-    ensures most { IfOk result (λ p. p.stmts.count ≤ 100001) }
+    ensures most { IfOk result (λ p. p.stmts.count ≤ STATEMENT_LIMIT + 1) }
     ensures length { IfOk result (λ p. length p.vars.entries ≤ length part.entry.vars.entries + length decl.now.vars) }
 {
     match stands.get(place) {
@@ -292,9 +293,9 @@ pub(crate) fn decls_valued<'a>(
     requires vars { length start.vars.entries + declared_in (map var_tree list.now) < 2 ^ 32 }
     requires members { MembersFit (space_of names.now) }
     requires fits { VarValuesFit (length names.now.loops.now) (map var_tree list.now) }
-    requires count { start.stmts.count ≤ 100001 }
+    requires count { start.stmts.count ≤ STATEMENT_LIMIT + 1 }
     ensures value { IfOk result (λ p. valued_part made.new.keys p ≡ spec.decls_valued first_one (space_of names.now) (valued_part made.old.keys start.entry) stands.now (map var_tree list.now)) }
-    ensures most { IfOk result (λ p. p.stmts.count ≤ 100001) }
+    ensures most { IfOk result (λ p. p.stmts.count ≤ STATEMENT_LIMIT + 1) }
     ensures length { IfOk result (λ p. length p.vars.entries ≤ length start.entry.vars.entries + declared_in (map var_tree list.now)) }
 {
     let mut part = start;

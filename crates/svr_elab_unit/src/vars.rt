@@ -20,6 +20,7 @@ use svr_elab_decl::{Used, UsedPart, data_type};
 use svr_elab_expr::beside;
 use svr_elab_fault::{Fault, earlier, when};
 use svr_elab_names::{NameSpace, Region, VarStand};
+use svr_limits::VARIABLE_LIMIT;
 use svr_refusal::Refusal;
 use svr_token::Names;
 use svr_tree::{DataType, VarDecl, VarDeclarator};
@@ -32,9 +33,9 @@ pub struct VarsPart<'a> {
     pub vars: IndexMap<&'a [u8], VarStand>,
     /// What the variables of each declaration are.
     pub stands: Items<VarStand>,
-    /// How many object variables there are, where over 4,096 count as 4,096.
+    /// How many object variables there are, where more than `VARIABLE_LIMIT` count as that.
     pub objects: u32,
-    /// How many others there are, where over 4,096 count as 4,096.
+    /// How many others there are, where more than `VARIABLE_LIMIT` count as that.
     pub others: u32,
     pub fault: Option<Fault>,
 }
@@ -69,12 +70,12 @@ fn of_sort(object: bool, objects: u32, others: u32) -> u32
 fn one_more(count: u32, is_one: bool) -> u32
     ensures { result ≡ spec.one_more count is_one }
 {
-    if is_one && count < 4096 {
+    if is_one && count < VARIABLE_LIMIT {
         count + 1
-    } else if count < 4096 {
+    } else if count < VARIABLE_LIMIT {
         count
     } else {
-        4096
+        VARIABLE_LIMIT
     }
 }
 
@@ -109,7 +110,7 @@ fn var_fault(
     let double = vars.get(spelled).is_some();
     earlier(
         when(double, name, Refusal::DoubleName),
-        when(4096 <= before, name, Refusal::TooMany),
+        when(VARIABLE_LIMIT <= before, name, Refusal::TooMany),
     )
 }
 

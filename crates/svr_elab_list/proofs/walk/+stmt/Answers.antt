@@ -6,19 +6,19 @@ use Rattle.svr_elab_type.specs.Seen.{constant_part}
 use Rattle.svr_elab_stmt.specs.Stmts as spec
 use Rattle.svr_elab_stmt.specs.Seen.{stmt_part, stmts_part}
 use Rattle.svr_elab_stmt.specs.Fits.{StmtsFit}
-use Rattle.svr_elab_list.proofs.Forms.{rest_is, block_is, kept, repeated_is, all_kept, start_is, step_is, before_is}
+use Rattle.svr_elab_list.proofs.Forms.{rest_is, block_is, kept, repeat_stmt_is, all_kept, start_is, step_is, before_is}
 use Rattle.svr_elab_list.proofs.walk.+stmt.Goals as goal
 
 pub block-returns-clause-value : goal.block-returns-clause-value
 block-returns-clause-value t c =
-    block_is (space_of c.args.names.now) _ _ c.in_ok-part.part (stmt_trees c.args.list.now) (stmt_part c.grouped.result) c.grouped.ensures.value c.in_ok-part.ensures.value
+    block_is (space_of c.args.names.now) _ _ c.in_ok-part.part (stmt_trees c.args.list.now) (stmt_part c.block_stmt.result) c.block_stmt.ensures.value c.in_ok-part.ensures.value
 
 pub block-returns-clause-made : goal.block-returns-clause-made
 block-returns-clause-made t c = kept _ _ _ _ c.truncate.ensures.keys c.len-before.ensures.len c.in_ok-part.ensures.before
 
 pub repetition-returns-clause-value : goal.repetition-returns-clause-value
 repetition-returns-clause-value t c =
-    repeated_is (constant_part c.in_ok-times.times) _ (stmt_part c.in_ok-inner.inner) _ (stmt_part c.in_ok-part.part)
+    repeat_stmt_is (constant_part c.in_ok-times.times) _ (stmt_part c.in_ok-inner.inner) _ (stmt_part c.in_ok-part.part)
     c.in_ok-part.ensures.value c.in_ok-times.ensures.value c.in_ok-inner.ensures.value
 
 pub stmts-loop-each-init : goal.stmts-loop-each-init

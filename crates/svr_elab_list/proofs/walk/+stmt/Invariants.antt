@@ -1,4 +1,5 @@
 use Rattle.std.proofs.Common.{◌≡◌, ◌≤◌, ◌+◌, ◌*◌, drop, take, length}
+use Rattle.svr_limits.specs.declared.limit.TheConstants.{STATEMENT_LIMIT}
 use Rattle.svr_tree.specs.declared.stmt.Stmt.{size-Stmt}
 use Rattle.svr_tree.specs.StmtTree.{stmt_trees}
 use Rattle.svr_elab_fault.specs.Refusals.{first_one}
@@ -11,7 +12,7 @@ use Rattle.svr_elab_list.proofs.walk.+stmt.Given as goal
 abbrev pub invariant-stmts-loop-each : goal.invariant-stmts-loop-each
 invariant-stmts-loop-each l = record {
   fits : StmtsFit (length l.names.loops.now) (stmt_trees (drop l.each-index l.list));
-  most : l.part.count ≤ 100001;
+  most : l.part.count ≤ STATEMENT_LIMIT + 1;
   before : take (length l.initial.made.keys) l.made.keys ≡ l.initial.made.keys;
   known : spec.stmts first_one (space_of l.names) (stmts_part l.made.keys l.part) (stmt_trees (drop l.each-index l.list))
       ≡ spec.stmts first_one (space_of l.names) (spec.no_stmts first_one l.initial.made.keys) (stmt_trees l.list);

@@ -1,9 +1,0 @@
-use Rattle.svr_elab_part.specs.Seen.{part_of}
-use Rattle.svr_elab_stmt.specs.Seen.{stmt_part, values_part}
-use Rattle.svr_elab_list.proofs.Forms.{patterned_is}
-use Rattle.svr_elab_list.proofs.right.patterned_at.Goals as goal
-
-pub returns-clause-value : goal.returns-clause-value
-returns-clause-value c =
-    let x = c.in_ok-target in
-    patterned_is (part_of c.args.target) c.args.at (values_part x.right) _ (stmt_part c.patterned.result) (rw x.ensures.held at c.patterned.ensures.value) (rw x.ensures.made at c.values-right.ensures)
