@@ -1,12 +1,12 @@
 #!/usr/bin/env python3
 """Runs texts of the kinds that are slowest for a layer, and prints time and memory as a table.
 
-    tools/hostile.py PROGRAM [KIB ..]         sizes in KiB; 1024, 2048 and 4096 where none is given
-    tools/hostile.py --write FOLDER [KIB ..]  writes the texts and runs nothing
+    tools/hostile.py PROGRAM [KIND ..] [KIB ..]  sizes in KiB; 1024, 2048 and 4096 where none is given, and all kinds where none is
+    tools/hostile.py --write FOLDER [KIB ..]     writes the texts and runs nothing
 
 Each text has the size that is asked for, to the byte, and is answered or refused. Times are processor seconds (user
 and system) of one run, memory the greatest resident set, which is at least that of this script; a run is ended after
-21 seconds, and its row then says `ended`, and greater texts of that kind are not run. It is given 4 GB, beyond which
+25 seconds, and its row then says `ended`, and greater texts of that kind are not run. It is given 4 GB, beyond which
 memory is wanting (status 8).
 """
 import os
@@ -15,7 +15,7 @@ import resource
 import subprocess
 import sys
 
-LIMIT_SECONDS = 21
+LIMIT_SECONDS = 25
 LIMIT_BYTES = 4 << 30
 
 
@@ -252,17 +252,18 @@ def main():
     if len(sys.argv) < 2:
         sys.exit(__doc__)
     is_written = sys.argv[1] == "--write"
-    target, *sizes = sys.argv[2:] if is_written else sys.argv[1:]
-    sizes = [int(kib) * 1024 for kib in sizes] or [1 << 20, 1 << 21, 1 << 22]
+    target, *words = sys.argv[2:] if is_written else sys.argv[1:]
+    sizes = [int(word) * 1024 for word in words if word.isdigit()] or [1 << 20, 1 << 21, 1 << 22]
+    kinds = [kind for kind in KINDS if kind.__name__ in words] or KINDS
     if is_written:
         folder = pathlib.Path(target)
         folder.mkdir(parents=True, exist_ok=True)
-        for kind in KINDS:
+        for kind in kinds:
             for size in sizes:
                 (folder / f"{kind.__name__}_{size // 1024}.sv").write_bytes(text_of(kind, size))
         return
     print("| kind | KiB | what it tells | status | seconds | MB |\n|---|---|---|---|---|---|")
-    for kind in KINDS:
+    for kind in kinds:
         for size in sizes:
             line, status, seconds, memory = run(target, text_of(kind, size))
             end = f"`{line}` | {status}" if status >= 0 else "ended | "
