@@ -1,14 +1,19 @@
 #!/usr/bin/env python3
 """The texts of docs/GUIDE.md, each run with what the guide says of it.
 
-    tools/guide.py check PROGRAM   does each come to what is told
-    tools/guide.py store PROGRAM   writes what the commands of its console blocks print into the guide
+    tools/guide.py check [PROGRAM]  are the rows of the tests the same, and does each text come to what is told
+    tools/guide.py store PROGRAM    writes what the commands of its console blocks print into the guide
+    tools/guide.py rows             writes the rows of the tests, crates/svr_example_tests/src/rows.rt
 
 PROGRAM is the built program, as crates/svrand/out/svrand. In a console block a line behind `$ ` is a command, run by a
 shell in a folder in which PROGRAM is `./svrand`, examples/ and tools/ lie, and each block with a name behind its kind
 is a file of that name; the lines up to the next command are what it prints. The scripts and the refusals of scripts are
 read as tools/examples.py reads them, and tried here too. Of the tables with three columns, a number and two texts, the first
 text is refused with the number and the second is not: derivations, and productions in their frame.
+
+The rows of the tests are those commands that run PROGRAM once, over a file or over what `sed` or `head` makes of one,
+and print all of it, its first or its last lines; then each example with what is stored, and the refusals of the tables
+with three columns.
 """
 import os
 import pathlib
@@ -25,6 +30,13 @@ GUIDE = examples.GUIDE
 BLOCK = re.compile(r"^```(\w+)(?: (\S+))?\n(.*?)^```$", re.M | re.S)
 LONGEST = 4_194_304
 HEIGHT = 128
+ROWS = examples.TEXTS.with_name("rows.rt")
+COMMAND = re.compile(
+    r"(?:((?:sed|head) [^|]*) \| )?\./svrand ([^|<>;]*?)(?: < ([\w./]+))?"
+    r"(?: \| (head|tail|cut) -[nc] [\d-]+)?(; echo \$\?)?"
+)
+STATUSES = ["AllOne", "SomeZero", "Usage", "SomeGivenUp", "Refused", "Limited"]
+PARTS = {None: "All", "head": "First", "tail": "Last", "cut": "First"}
 
 
 def files():
@@ -71,16 +83,117 @@ def pairs(numbers):
     return [(int(number), refused, repaired) for number, refused, repaired in rows if int(number) in numbers]
 
 
-def tries():
-    """Each refusal with its words, a text that is refused with it and one that is not."""
-    frame = examples.scripts()[-1][0].splitlines()
-    for number, refused, repaired in examples.refusals():
-        yield number, ["run"], examples.framed(frame, refused), examples.framed(frame, repaired)
+def text_of(maker, file):
+    """What a command reads: a file of the guide or an example, or what `sed` or `head` makes of one."""
+    if maker is None:
+        return files().get(file) or (ROOT / file).read_text()
+    with tempfile.TemporaryDirectory() as name:
+        prepared("svrand", pathlib.Path(name))
+        return told_by(maker, name)
+
+
+def name_of(text):
+    """The name of a text that texts.rt has, as `Text` has it."""
+    for file, script in examples.examples():
+        if script == text:
+            return file.stem.title().replace("_", "")
+    return "OwnClass" if text == examples.scripts()[0][0] else None
+
+
+def status_of(told):
+    """How a run ends that prints these lines, by the calls that they tell."""
+    ends = {" limit ": "Limited", " gaveup ": "SomeGivenUp", " 0 ": "SomeZero"}
+    calls = [line for line in told.splitlines() if line.startswith("#")]
+    return next((status for word, status in ends.items() if any(word in line for line in calls)), "AllOne")
+
+
+def stored():
+    """The runs of the examples: words, what is read, the status, which part of what is printed is told, and that."""
+    for file, text in examples.examples():
+        told = file.with_suffix(".out").read_text()
+        yield examples.words_of(text), text, status_of(told), "All", told
+
+
+def runs():
+    """The same of the guide's commands, with the status where it is told."""
+    own, told = examples.scripts()[0]
+    yield examples.SEED_1, own, status_of(told), "All", told
+    for kind, _, block in BLOCK.findall(GUIDE.read_text()):
+        for command, told in commands(block) if kind == "console" else ():
+            found = COMMAND.fullmatch(command)
+            if found is None or not (found[1] or found[3]) or found[3] in ("/", "one.txt"):
+                continue
+            maker, words, file, cut, is_asked = found.groups()
+            status = None
+            if is_asked:
+                *lines, code = told.splitlines(keepends=True)
+                told, status = "".join(lines), STATUSES[int(code)]
+            yield words.split(), text_of(maker, file), status, PARTS[cut], told[:-1] if cut == "cut" else told
+
+
+def listed(items, indent):
+    """Items of a list, on one line where they fit, as `rt fmt` has it."""
+    whole = f"[{', '.join(items)}]"
+    if len(whole) <= (71 if len(items) == 1 else 60):
+        return whole
+    return "[\n" + "".join(f"{' ' * (indent + 4)}{it},\n" for it in items) + f"{' ' * indent}]"
+
+
+def row(words, text, status, part, told):
+    said = listed([f'"{word}"' for word in words], 8)
+    name = name_of(text)
+    lines = listed([examples.literal(line) for line in text.splitlines()], 8)
+    read = f"Text::{name}" if name else f"Text::Lines(&{lines})"
+    ends = f"Some(Status::{status})" if status else "None"
+    parts = [line[at : at + 80] for line in told.splitlines(keepends=True) for at in range(0, len(line), 80)]
+    told = listed([examples.literal(part).replace("\n", "\\n") for part in parts], 8)
+    return (
+        "    Row {\n"
+        f"        words: &{said},\n"
+        f"        text: {read},\n"
+        f"        status: {ends},\n"
+        f"        part: Part::{part},\n"
+        f"        told: &{told},\n"
+        "    },\n"
+    )
+
+
+def table(name, rows):
+    return f"pub(crate) const {name}: &[Row] = &[\n{''.join(row(*it) for it in rows)}];\n"
+
+
+def copies():
+    """The file of the rows."""
+    return "\n".join([
+        "// What docs/GUIDE.md and the files beside the examples say that the program prints, written by tools/guide.py.\n",
+        "use crate::prints::{Part, Row, Text};\nuse svr_status::Status;\n",
+        table("STORED", stored()),
+        table("COMMANDS", runs()),
+        table("REPAIRED", [it for pair in framed_pairs() for it in repaired_runs(*pair)]),
+    ])
+
+
+def repaired_runs(number, words, refused, repaired):
+    """The run of a text that is refused with a number, and of one that is not."""
+    yield words, refused, "Refused", "Last", f" {number}\n"
+    yield words, repaired, "AllOne", "First", "accepted\n" if words == ["check"] else "#1 a"
+
+
+def framed_pairs():
+    """The refusals of derivations and of productions, each with its words, a text that is refused and one that is not."""
     for number, refused, repaired in pairs({29, 30}):
         yield number, ["check"], refused, repaired
     for number, refused, repaired in pairs({36, 37, 38, 39}):
         framed = [f"randsequence () {text} endsequence" for text in (refused, repaired)]
         yield number, ["seq"], *framed
+
+
+def tries():
+    """Each refusal with its words, a text that is refused with it and one that is not."""
+    frame = examples.scripts()[-1][0].splitlines()
+    for number, refused, repaired in examples.refusals():
+        yield number, ["run"], examples.framed(frame, refused), examples.framed(frame, repaired)
+    yield from framed_pairs()
     deep = [f"constraint k {{ a == {'(' * pairs_}1{')' * pairs_}; }}" for pairs_ in (HEIGHT - 2, HEIGHT - 3)]
     yield 6, ["run"], *[examples.framed(frame, text) for text in deep]
     whole = "\n".join(frame)
@@ -127,10 +240,17 @@ def store(program):
 
 def main():
     command, program = (sys.argv[1:] + [None, None])[:2]
-    if program is None or command not in ("check", "store"):
-        sys.exit(__doc__)
-    if command == "store":
+    if command == "rows":
+        ROWS.write_text(copies())
+        return 0
+    if command == "store" and program:
         store(program)
+        return 0
+    if command != "check":
+        sys.exit(__doc__)
+    if ROWS.read_text() != copies():
+        sys.exit(f"{ROWS.relative_to(ROOT)} is not what `rows` writes")
+    if program is None:
         return 0
     found = list(unlike(program))
     shown = sum(len(commands(block)) for kind, _, block in BLOCK.findall(GUIDE.read_text()) if kind == "console")

@@ -1,7 +1,8 @@
 #!/usr/bin/env python3
 """Texts for each row of the guide's table 'The language': what is accepted, and what is left out and so refused.
 
-    tools/language.py PROGRAM
+    tools/language.py PROGRAM   does each come to what the table says
+    tools/language.py rows      writes the rows of the tests, crates/svr_example_tests/src/language_rows.rt
 
 PROGRAM is the built program, as crates/svrand/out/svrand. Each text stands in a script: at its top, in its class, as an item of
 a constraint block, among the variables of its module or among its statements. It prints the texts that come to
@@ -10,6 +11,12 @@ something else than the table says, each with what the program prints.
 import re
 import subprocess
 import sys
+
+sys.dont_write_bytecode = True
+import examples  # noqa: E402
+
+TESTS = examples.TEXTS.with_name("language_rows.rt")
+PLACES = ("top", "head", "property", "item", "variable", "statement")
 
 SCRIPT = """{top}
 typedef enum bit [1:0] {{ OFF, ON, SLOW }} power_t;
@@ -114,16 +121,52 @@ ROWS = [
 
 
 def printed(program, place, text):
-    parts = dict.fromkeys(("top", "head", "property", "item", "variable", "statement"), "")
+    parts = dict.fromkeys(PLACES, "")
     parts[place] = text
     ran = subprocess.run([program, "run"], input=SCRIPT.format(**parts).encode(), capture_output=True, check=False)
     return ran.stdout.decode().splitlines()[0]
 
 
+def literal(text):
+    return examples.literal(text).replace("\n", "\\n")
+
+
+def pair(first, second):
+    """A pair on a line of its own, as `rt fmt` has it."""
+    if len(first) + len(second) > 58:
+        return f"    (\n        {first},\n        {second},\n    ),\n"
+    return f"    ({first}, {second}),\n"
+
+
+def table(name, column):
+    """The texts of a column of ROWS, each with its place."""
+    rows = "".join(pair(row[1].upper(), literal(text)) for row in ROWS for text in row[column])
+    return f"pub(crate) const {name}: &[(usize, &[u8])] = &[\n{rows}];\n"
+
+
+def copies():
+    """The file of the rows: the script in pieces between its places, and the texts."""
+    named = dict.fromkeys(PLACES, "\0")
+    pieces = "".join(f"    {literal(piece)},\n" for piece in SCRIPT.format(**named).split("\0"))
+    return "\n".join([
+        "// Texts for each row of the guide's table of the language, written by tools/language.py.\n",
+        "/// The script, cut at the places at which a text may stand.",
+        f"pub(crate) const PIECES: &[&[u8]] = &[\n{pieces}];\n",
+        "\n\n".join(f"const {place.upper()}: usize = {i};" for i, place in enumerate(PLACES)) + "\n",
+        table("ACCEPTED", 2),
+        table("LEFT_OUT", 3),
+    ])
+
+
 def main():
     (program,) = sys.argv[1:]
+    if program == "rows":
+        TESTS.write_text(copies())
+        return 0
     texts = 0
-    wrong = 0
+    wrong = int(TESTS.read_text() != copies())
+    if wrong:
+        print(f"{TESTS.name} is not what `rows` writes")
     for clause, place, accepted, refused in ROWS:
         for text, is_accepted in [(text, True) for text in accepted] + [(text, False) for text in refused]:
             found = printed(program, place, text)

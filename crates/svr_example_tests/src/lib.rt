@@ -1,6 +1,6 @@
-//! The tests of the texts that users read: each example, with what follows from its text whatever the seed, and the scripts and refusals of the guide.
+//! The tests of the texts that users read: each example, with what is stored beside it and what follows from its text whatever the seed, and the scripts, commands and refusals of the guide.
 //!
-//! `tools/examples.py` writes `texts.rt`.
+//! `tools/examples.py` writes `texts.rt`, `tools/guide.py` writes `rows.rt`, and `tools/language.py` writes `language_rows.rt`.
 #![tactic(auto)]
 
 #[cfg(test)]
@@ -14,9 +14,17 @@ mod guide;
 #[cfg(test)]
 mod held;
 #[cfg(test)]
+mod language;
+#[cfg(test)]
+mod language_rows;
+#[cfg(test)]
 mod opcodes;
 #[cfg(test)]
 mod packets;
+#[cfg(test)]
+mod prints;
+#[cfg(test)]
+mod rows;
 #[cfg(test)]
 mod running;
 #[cfg(test)]
