@@ -5,8 +5,10 @@
 
 PROGRAM is the built program, as crates/svrand/out/svrand. A library that stands before the C library refuses the
 allocation of a number. Each run with a refused allocation has to end with status 8, and what it has written has to be a
-front of what the run writes where nothing is refused. Prints a line for each script with each of two lists of words; the exit status is 1 where a run
-ends otherwise. It needs a C compiler (cc).
+front of what the run writes where nothing is refused; or it writes all of that and ends as there, where the room was not
+needed: a list that std's `collect` makes asks for all its room ahead, and grows bit by bit where that is refused. Prints
+a line for each script with each of two lists of words; the exit status is 1 where a run ends otherwise. It needs a C
+compiler (cc).
 """
 import itertools
 import os
@@ -96,14 +98,16 @@ def run(program, words, text, shim, **more):
 
 
 def sweep(program, words, text, shim, counted):
-    """How many allocations a run makes, and those with which it ends otherwise than it should."""
+    """How many allocations a run makes, how many of them are not needed, and those with which it ends otherwise than it should."""
     status, whole = run(program, words, text, shim, COUNTED=str(counted))
-    count, odd = int(counted.read_text()), []
+    count, spared, odd = int(counted.read_text()), 0, []
     for number in range(1, count + 1):
         found, front = run(program, words, text, shim, REFUSED=str(number))
-        if found != 8 or not whole.startswith(front):
+        if (found, front) == (status, whole):
+            spared += 1
+        elif found != 8 or not whole.startswith(front):
             odd.append((number, found))
-    return status, count, odd
+    return status, count, spared, odd
 
 
 def main():
@@ -115,9 +119,11 @@ def main():
         source.write_text(SHIM)
         subprocess.run(["cc", "-O2", "-shared", "-fPIC", "-o", shim, source], check=True)
         for (name, text), words in itertools.product(SCRIPTS.items(), WORDS):
-            status, count, odd = sweep(program, words, text, shim, counted)
+            status, count, spared, odd = sweep(program, words, text, shim, counted)
             is_clean = is_clean and not odd
-            print(f"{name}, {' '.join(words)}: status {status}, {count} allocations, {count - len(odd)} of them refused with status 8 and a front", *odd[:10], flush=True)
+            refused = count - spared - len(odd)
+            told = f"{count} allocations, {refused} refused with status 8 and a front, {spared} not needed"
+            print(f"{name}, {' '.join(words)}: status {status}, {told}", *odd[:10], flush=True)
     return 0 if is_clean else 1
 
 
