@@ -138,10 +138,16 @@ def pair(first, second):
     return f"    ({first}, {second}),\n"
 
 
-def table(name, column):
-    """The texts of a column of ROWS, each with its place."""
-    rows = "".join(pair(row[1].upper(), literal(text)) for row in ROWS for text in row[column])
-    return f"pub(crate) const {name}: &[(usize, &[u8])] = &[\n{rows}];\n"
+def is_early(row):
+    """Whether a row is of clauses 5 to 8. A proof takes so many texts in one table and no more."""
+    return int(re.match(r"\d+", row[0]).group()) < 9
+
+
+def table(name, column, early):
+    """The texts of a column of some rows, each with its place."""
+    rows = [row for row in ROWS if is_early(row) == early]
+    texts = "".join(pair(row[1].upper(), literal(text)) for row in rows for text in row[column])
+    return f"pub(crate) const {name}: &[(usize, &[u8])] = &[\n{texts}];\n"
 
 
 def copies():
@@ -153,8 +159,11 @@ def copies():
         "/// The script, cut at the places at which a text may stand.",
         f"pub(crate) const PIECES: &[&[u8]] = &[\n{pieces}];\n",
         "\n\n".join(f"const {place.upper()}: usize = {i};" for i, place in enumerate(PLACES)) + "\n",
-        table("ACCEPTED", 2),
-        table("LEFT_OUT", 3),
+        "// Of clauses 5 to 8, and then of 9 to 19.\n",
+        table("FIRST_ACCEPTED", 2, True),
+        table("LAST_ACCEPTED", 2, False),
+        table("FIRST_LEFT_OUT", 3, True),
+        table("LAST_LEFT_OUT", 3, False),
     ])
 
 

@@ -1,7 +1,7 @@
 // Each row of the guide's table of the language: texts that are accepted, and texts that are left out.
 
 use crate::held::joined;
-use crate::language_rows::{ACCEPTED, LEFT_OUT, PIECES};
+use crate::language_rows::{FIRST_ACCEPTED, FIRST_LEFT_OUT, LAST_ACCEPTED, LAST_LEFT_OUT, PIECES};
 use crate::prints::status_of;
 use std::alloc::Global;
 use svr_edge::MemSink;
@@ -45,15 +45,29 @@ fn is_refused(alloc: Global, place: usize, text: &[u8]) -> bool {
 }
 
 #[test]
-fn accepted_texts_run(rt: HostRuntime) {
-    for (i, (place, text)) in ACCEPTED.iter().enumerate() {
+fn first_accepted_texts_run(rt: HostRuntime) {
+    for (i, (place, text)) in FIRST_ACCEPTED.iter().enumerate() {
         assert!(rt; is_accepted(rt.alloc(), *place, text), "accepted {i}");
     }
 }
 
 #[test]
-fn left_out_texts_are_refused(rt: HostRuntime) {
-    for (i, (place, text)) in LEFT_OUT.iter().enumerate() {
+fn last_accepted_texts_run(rt: HostRuntime) {
+    for (i, (place, text)) in LAST_ACCEPTED.iter().enumerate() {
+        assert!(rt; is_accepted(rt.alloc(), *place, text), "accepted {i}");
+    }
+}
+
+#[test]
+fn first_left_out_texts_are_refused(rt: HostRuntime) {
+    for (i, (place, text)) in FIRST_LEFT_OUT.iter().enumerate() {
+        assert!(rt; is_refused(rt.alloc(), *place, text), "left out {i}");
+    }
+}
+
+#[test]
+fn last_left_out_texts_are_refused(rt: HostRuntime) {
+    for (i, (place, text)) in LAST_LEFT_OUT.iter().enumerate() {
         assert!(rt; is_refused(rt.alloc(), *place, text), "left out {i}");
     }
 }

@@ -23,7 +23,9 @@ const VARIABLE: usize = 4;
 
 const STATEMENT: usize = 5;
 
-pub(crate) const ACCEPTED: &[(usize, &[u8])] = &[
+// Of clauses 5 to 8, and then of 9 to 19.
+
+pub(crate) const FIRST_ACCEPTED: &[(usize, &[u8])] = &[
     (STATEMENT, b"// one\n"),
     (STATEMENT, b"/* a /* b */"),
     (ITEM, b"$signed(a) < 9;"),
@@ -92,6 +94,9 @@ pub(crate) const ACCEPTED: &[(usize, &[u8])] = &[
         TOP,
         b"class B; rand int x; constraint c { x < 3; } endclass class D extends B; constraint c { x > 3; } endclass",
     ),
+];
+
+pub(crate) const LAST_ACCEPTED: &[(usize, &[u8])] = &[
     (STATEMENT, b"v = 2;"),
     (STATEMENT, b"p.s = 3;"),
     (STATEMENT, b"p.f[1] = 3;"),
@@ -194,7 +199,7 @@ pub(crate) const ACCEPTED: &[(usize, &[u8])] = &[
     (STATEMENT, b"p.randomize(a) with { b < 16; };"),
 ];
 
-pub(crate) const LEFT_OUT: &[(usize, &[u8])] = &[
+pub(crate) const FIRST_LEFT_OUT: &[(usize, &[u8])] = &[
     (ITEM, b"a == 4 'b1010;"),
     (ITEM, b"\\a == 1;"),
     (ITEM, b"$clog2(a) == 1;"),
@@ -295,6 +300,9 @@ pub(crate) const LEFT_OUT: &[(usize, &[u8])] = &[
         TOP,
         b"class B; rand int x; endclass class D extends B; constraint c { super.x < 3; } endclass",
     ),
+];
+
+pub(crate) const LAST_LEFT_OUT: &[(usize, &[u8])] = &[
     (TOP, b"function int one; return 1; endfunction"),
     (TOP, b"module u; endmodule"),
     (TOP, b"package x; endpackage"),
