@@ -1,6 +1,7 @@
 -- A `randsequence` whose names are resolved, each of whose productions can be expanded, and which is within the limits.
 use Rattle.std.specs.Prelude.{◌<◌, ◌≤◌, ℕ, suc, ◌+◌, max, List, [], ◌∷◌, length}
 use Rattle.std.specs.List.{All}
+use Rattle.svr_seq.specs.declared.limits.TheConstants.{SEQUENCE_LIMIT, REPEAT_LIMIT, CHOICE_LIMIT}
 use Rattle.svr_seq.specs.SeqTerm.{ActTerm, print, choose, BranchTerms, no_branches, more_branches, PartTerm, expand, block, RuleTerm, ProductionTerm, SeqTerm}
 
 -- the sums of the weights of rules and of branches
@@ -31,32 +32,32 @@ abbrev mutual
   -- no `randcase` has too many branches
   pub HasFewBranches : ActTerm → Type 0
   HasFewBranches (print name) = Unit {0}
-  HasFewBranches (choose bs) = (branch_count bs ≤ 1024) × BranchesHaveFew bs
+  HasFewBranches (choose bs) = (branch_count bs ≤ SEQUENCE_LIMIT) × BranchesHaveFew bs
 
   pub BranchesHaveFew : BranchTerms → Type 0
   BranchesHaveFew no_branches = Unit {0}
   BranchesHaveFew (more_branches w a bs) = HasFewBranches a × BranchesHaveFew bs
 
 pub record IsSoundAct (a : ActTerm) : Type 0 where
-  pub shallow : depth a ≤ 128
+  pub shallow : depth a ≤ CHOICE_LIMIT
   pub few : HasFewBranches a
 
 -- among so many productions: a place of one and a count, or a block
 abbrev pub IsSoundPart : ℕ → PartTerm → Type 0
-IsSoundPart prods (expand p n) = (p < prods) × (n ≤ 2048)
-IsSoundPart prods (block acts) = (length acts ≤ 1024) × All IsSoundAct acts
+IsSoundPart prods (expand p n) = (p < prods) × (n ≤ REPEAT_LIMIT)
+IsSoundPart prods (block acts) = (length acts ≤ SEQUENCE_LIMIT) × All IsSoundAct acts
 
 pub record IsSoundRule (prods : ℕ) (r : RuleTerm) : Type 0 where
-  pub few : length r.parts ≤ 1024
+  pub few : length r.parts ≤ SEQUENCE_LIMIT
   pub sound : All (IsSoundPart prods) r.parts
 
 -- some rule has a weight above 0
 pub record IsSoundProduction (prods : ℕ) (x : ProductionTerm) : Type 0 where
-  pub few : length x.rules ≤ 1024
+  pub few : length x.rules ≤ SEQUENCE_LIMIT
   pub sound : All (IsSoundRule prods) x.rules
   pub weighty : 0 < rule_weights x.rules
 
 pub record IsSound (s : SeqTerm) : Type 0 where
   pub starts : s.start < length s.prods
-  pub few : length s.prods ≤ 1024
+  pub few : length s.prods ≤ SEQUENCE_LIMIT
   pub sound : All (IsSoundProduction (length s.prods)) s.prods

@@ -12,7 +12,7 @@ use Rattle.svr_seq_text.specs.declared.text.ActText.TheVariants as t
 use Rattle.svr_seq_text.specs.declared.text.RuleText.{RuleText}
 use Rattle.svr_seq_text.specs.declared.text.ProdText.{ProdText}
 use Rattle.svr_seq_text.specs.Tree.{ActTree, printed, chosen, PartTree, named, repeated, coded, RuleTree, ProdTree, SeqTree, act_text, acts_text, part_text, rule_text, prod_text, text_of}
-use Rattle.svr_seq_made.specs.declared.limits.TheConstants.{MOST, MOST_TIMES}
+use Rattle.svr_seq.specs.declared.limits.TheConstants.{SEQUENCE_LIMIT, REPEAT_LIMIT}
 use Rattle.svr_seq_made.specs.Blocks.{value_of, unless, piece_refusals, acts_refusals}
 use Rattle.svr_seq_made.specs.Trees.{act_of}
 use Rattle.svr_seq_made.specs.Refusals.{is_same, Entry, place_of, and_entry, entries, Finder, finder, unknown, is_at, weight_of, has_weight, part_refusals, parts_refusals, rules_refusals, head_refusals, prod_refusals, prods_refusals, start_refusals, refusals}
@@ -69,11 +69,11 @@ module _ (text : ℕ → List ℕ) where
     pub sound : All IsSoundAct xs
 
   first-fits : (x : ActTree) (acts : List ActTerm) → acts_refusals text (blk [] acts) (act_text x) ≡ [] → length acts < 1024
-  first-fits (printed n) acts h = ltb-true (length acts) 1024 (is-fine (nat_lt (length acts) MOST) refusal.SequenceTooLarge n (no-front (unless (nat_lt (length acts) MOST) refusal.SequenceTooLarge n) [] h))
+  first-fits (printed n) acts h = ltb-true (length acts) 1024 (is-fine (nat_lt (length acts) SEQUENCE_LIMIT) refusal.SequenceTooLarge n (no-front (unless (nat_lt (length acts) SEQUENCE_LIMIT) refusal.SequenceTooLarge n) [] h))
   first-fits (chosen at bs) acts h =
       ltb-true (length acts) 1024
-      (is-fine (nat_lt (length acts) MOST) refusal.SequenceTooLarge at
-      (no-front (unless (nat_lt (length acts) MOST) refusal.SequenceTooLarge at) _ (no-front (piece_refusals (blk [] acts) (t.Choose at)) _ h)))
+      (is-fine (nat_lt (length acts) SEQUENCE_LIMIT) refusal.SequenceTooLarge at
+      (no-front (unless (nat_lt (length acts) SEQUENCE_LIMIT) refusal.SequenceTooLarge at) _ (no-front (piece_refusals (blk [] acts) (t.Choose at)) _ h)))
 
   acts-sound : (xs : List ActTree) (acts : List ActTerm) → acts_refusals text (blk [] acts) (acts_text xs) ≡ [] → length acts ≤ 1024 → ActsAreSound (length acts) (map (act_of text) xs)
   acts-sound [] acts h l = record { count = omega (arith, l); sound = All-nil IsSoundAct }
@@ -99,9 +99,9 @@ module _ (text : ℕ → List ℕ) where
   part-sound : (find : Finder) (n : ℕ) (fits : Bool) (x : PartTree) → IsBounded find n → part_refusals text find fits (part_text x) ≡ [] → IsSoundPart n (part_made text find (part_text x))
   part-sound find n fits (named m) h r = (place-sound find n m h (no-front (unknown text find m) (unless fits refusal.SequenceTooLarge m) r), omega arith)
   part-sound find n fits (repeated at c m) h r =
-      let later = no-back (unless fits refusal.SequenceTooLarge at) (unless (nat_le (value_of (text c)) MOST_TIMES) refusal.SequenceTooLarge c ++ unknown text find m) r in
-      let few : value_of (text c) ≤ 2048 = leb-true (value_of (text c)) 2048 (is-fine (nat_le (value_of (text c)) MOST_TIMES) refusal.SequenceTooLarge c (no-front (unless (nat_le (value_of (text c)) MOST_TIMES) refusal.SequenceTooLarge c) (unknown text find m) later)) in
-      (place-sound find n m h (no-back (unless (nat_le (value_of (text c)) MOST_TIMES) refusal.SequenceTooLarge c) (unknown text find m) later), few)
+      let later = no-back (unless fits refusal.SequenceTooLarge at) (unless (nat_le (value_of (text c)) REPEAT_LIMIT) refusal.SequenceTooLarge c ++ unknown text find m) r in
+      let few : value_of (text c) ≤ 2048 = leb-true (value_of (text c)) 2048 (is-fine (nat_le (value_of (text c)) REPEAT_LIMIT) refusal.SequenceTooLarge c (no-front (unless (nat_le (value_of (text c)) REPEAT_LIMIT) refusal.SequenceTooLarge c) (unknown text find m) later)) in
+      (place-sound find n m h (no-back (unless (nat_le (value_of (text c)) REPEAT_LIMIT) refusal.SequenceTooLarge c) (unknown text find m) later), few)
   part-sound find n fits (coded at acts) h r =
       let s : ActsAreSound 0 (map (act_of text) acts) = acts-sound acts [] (no-back (unless fits refusal.SequenceTooLarge at) (acts_refusals text (blk [] []) (acts_text acts)) r) (omega arith) in
       let count : 0 + length (map (act_of text) acts) ≤ 1024 = s.count in
@@ -119,14 +119,14 @@ module _ (text : ℕ → List ℕ) where
   parts-sound : (xs : List PartTree) (find : Finder) (n : ℕ) (fits : Bool) (i : ℕ) → IsBounded find n → parts_refusals text find fits i (map part_text xs) ≡ [] → i ≤ 1024 → PartsAreSound find n i xs
   parts-sound [] find n fits i h r l = record { count = omega (arith, l); sound = All-nil (IsSoundPart n) }
   parts-sound (x ∷ xs) find n fits i h r l =
-      let here : part_refusals text find (fits && nat_lt i MOST) (part_text x) ≡ [] = no-front (part_refusals text find (fits && nat_lt i MOST) (part_text x)) _ r in
-      let both = and_parts fits (nat_lt i MOST) (part-fits find (fits && nat_lt i MOST) x here) in
+      let here : part_refusals text find (fits && nat_lt i SEQUENCE_LIMIT) (part_text x) ≡ [] = no-front (part_refusals text find (fits && nat_lt i SEQUENCE_LIMIT) (part_text x)) _ r in
+      let both = and_parts fits (nat_lt i SEQUENCE_LIMIT) (part-fits find (fits && nat_lt i SEQUENCE_LIMIT) x here) in
       let less : i < 1024 = ltb-true i 1024 both.1 in
-      let more : PartsAreSound find n (suc i) xs = parts-sound xs find n fits (suc i) h (no-back (part_refusals text find (fits && nat_lt i MOST) (part_text x)) _ r) (omega arith) in
+      let more : PartsAreSound find n (suc i) xs = parts-sound xs find n fits (suc i) h (no-back (part_refusals text find (fits && nat_lt i SEQUENCE_LIMIT) (part_text x)) _ r) (omega arith) in
       let count : suc i + length xs ≤ 1024 = more.count in
       record {
         count = omega arith;
-        sound = All-cons (IsSoundPart n) (part_made text find (part_text x)) (map (part_made text find) (map part_text xs)) (part-sound find n (fits && nat_lt i MOST) x h here) more.sound;
+        sound = All-cons (IsSoundPart n) (part_made text find (part_text x)) (map (part_made text find) (map part_text xs)) (part-sound find n (fits && nat_lt i SEQUENCE_LIMIT) x h here) more.sound;
       }
 
   rule-sound : (r : RuleTree) (find : Finder) (n : ℕ) (fits : Bool) → IsBounded find n → parts_refusals text find fits 0 (map part_text (r.first ∷ r.others)) ≡ [] → IsSoundRule n (rule_made text find (rule_text r))
@@ -139,7 +139,7 @@ module _ (text : ℕ → List ℕ) where
       record { few = (let few : length (map (part_made text find) (map part_text xs)) ≤ 1024 = omega arith in few); sound = s.sound }
 
   rule-fits : (r : RuleTree) (find : Finder) (fits : Bool) → parts_refusals text find fits 0 (map part_text (r.first ∷ r.others)) ≡ [] → fits ≡ true
-  rule-fits r find fits k = (and_parts fits (nat_lt 0 MOST) (part-fits find (fits && nat_lt 0 MOST) r.first (no-front (part_refusals text find (fits && nat_lt 0 MOST) (part_text r.first)) _ k))).0
+  rule-fits r find fits k = (and_parts fits (nat_lt 0 SEQUENCE_LIMIT) (part-fits find (fits && nat_lt 0 SEQUENCE_LIMIT) r.first (no-front (part_refusals text find (fits && nat_lt 0 SEQUENCE_LIMIT) (part_text r.first)) _ k))).0
 
   record RulesAreSound (find : Finder) (n before : ℕ) (xs : List RuleTree) : Type 0 where
     pub count : before + length xs ≤ 1024
@@ -148,13 +148,13 @@ module _ (text : ℕ → List ℕ) where
   rules-sound : (xs : List RuleTree) (find : Finder) (n i : ℕ) → IsBounded find n → rules_refusals text find i (map rule_text xs) ≡ [] → i ≤ 1024 → RulesAreSound find n i xs
   rules-sound [] find n i h r l = record { count = omega (arith, l); sound = All-nil (IsSoundRule n) }
   rules-sound (x ∷ xs) find n i h r l =
-      let here : parts_refusals text find (true && nat_lt i MOST) 0 (map part_text (x.first ∷ x.others)) ≡ [] = no-front (parts_refusals text find (true && nat_lt i MOST) 0 (map part_text (x.first ∷ x.others))) _ r in
-      let less : i < 1024 = ltb-true i 1024 (rule-fits x find (nat_lt i MOST) here) in
-      let more : RulesAreSound find n (suc i) xs = rules-sound xs find n (suc i) h (no-back (parts_refusals text find (true && nat_lt i MOST) 0 (map part_text (x.first ∷ x.others))) _ r) (omega arith) in
+      let here : parts_refusals text find (true && nat_lt i SEQUENCE_LIMIT) 0 (map part_text (x.first ∷ x.others)) ≡ [] = no-front (parts_refusals text find (true && nat_lt i SEQUENCE_LIMIT) 0 (map part_text (x.first ∷ x.others))) _ r in
+      let less : i < 1024 = ltb-true i 1024 (rule-fits x find (nat_lt i SEQUENCE_LIMIT) here) in
+      let more : RulesAreSound find n (suc i) xs = rules-sound xs find n (suc i) h (no-back (parts_refusals text find (true && nat_lt i SEQUENCE_LIMIT) 0 (map part_text (x.first ∷ x.others))) _ r) (omega arith) in
       let count : suc i + length xs ≤ 1024 = more.count in
       record {
         count = omega arith;
-        sound = All-cons (IsSoundRule n) (rule_made text find (rule_text x)) (map (rule_made text find) (map rule_text xs)) (rule-sound x find n (nat_lt i MOST) h here) more.sound;
+        sound = All-cons (IsSoundRule n) (rule_made text find (rule_text x)) (map (rule_made text find) (map rule_text xs)) (rule-sound x find n (nat_lt i SEQUENCE_LIMIT) h here) more.sound;
       }
 
   -- ---- productions
@@ -172,8 +172,8 @@ module _ (text : ℕ → List ℕ) where
       let xs : List RuleTree = x.first ∷ x.others in
       let head = no-front (head_refusals text find i (prod_text x)) (rules_refusals text find 0 (map rule_text xs)) k in
       let s : RulesAreSound find n 0 xs = rules-sound xs find n 0 h (no-back (head_refusals text find i (prod_text x)) (rules_refusals text find 0 (map rule_text xs)) k) (omega arith) in
-      let tail = no-back (unless (is_at (find (text x.name)) i) refusal.UnknownProduction x.name) (unless (list_any (has_weight text) (map rule_text xs)) refusal.NoWeight x.name ++ unless (nat_lt i MOST) refusal.SequenceTooLarge x.name) head in
-      let some : list_any (has_weight text) (map rule_text xs) ≡ true = is-fine (list_any (has_weight text) (map rule_text xs)) refusal.NoWeight x.name (no-front (unless (list_any (has_weight text) (map rule_text xs)) refusal.NoWeight x.name) (unless (nat_lt i MOST) refusal.SequenceTooLarge x.name) tail) in
+      let tail = no-back (unless (is_at (find (text x.name)) i) refusal.UnknownProduction x.name) (unless (list_any (has_weight text) (map rule_text xs)) refusal.NoWeight x.name ++ unless (nat_lt i SEQUENCE_LIMIT) refusal.SequenceTooLarge x.name) head in
+      let some : list_any (has_weight text) (map rule_text xs) ≡ true = is-fine (list_any (has_weight text) (map rule_text xs)) refusal.NoWeight x.name (no-front (unless (list_any (has_weight text) (map rule_text xs)) refusal.NoWeight x.name) (unless (nat_lt i SEQUENCE_LIMIT) refusal.SequenceTooLarge x.name) tail) in
       let count : 0 + length xs ≤ 1024 = s.count in
       let a : length (map (rule_made text find) (map rule_text xs)) ≡ length (map rule_text xs) = length-map (map rule_text xs) (rule_made text find) in
       let b : length (map rule_text xs) ≡ length xs = length-map xs rule_text in
@@ -183,8 +183,8 @@ module _ (text : ℕ → List ℕ) where
   prod-fits x find i k =
       let rules : List RuleText = map rule_text (x.first ∷ x.others) in
       let head = no-front (head_refusals text find i (prod_text x)) (rules_refusals text find 0 rules) k in
-      let tail = no-back (unless (is_at (find (text x.name)) i) refusal.UnknownProduction x.name) (unless (list_any (has_weight text) rules) refusal.NoWeight x.name ++ unless (nat_lt i MOST) refusal.SequenceTooLarge x.name) head in
-      ltb-true i 1024 (is-fine (nat_lt i MOST) refusal.SequenceTooLarge x.name (no-back (unless (list_any (has_weight text) rules) refusal.NoWeight x.name) (unless (nat_lt i MOST) refusal.SequenceTooLarge x.name) tail))
+      let tail = no-back (unless (is_at (find (text x.name)) i) refusal.UnknownProduction x.name) (unless (list_any (has_weight text) rules) refusal.NoWeight x.name ++ unless (nat_lt i SEQUENCE_LIMIT) refusal.SequenceTooLarge x.name) head in
+      ltb-true i 1024 (is-fine (nat_lt i SEQUENCE_LIMIT) refusal.SequenceTooLarge x.name (no-back (unless (list_any (has_weight text) rules) refusal.NoWeight x.name) (unless (nat_lt i SEQUENCE_LIMIT) refusal.SequenceTooLarge x.name) tail))
 
   record ProdsAreSound (find : Finder) (n before : ℕ) (xs : List ProdTree) : Type 0 where
     pub count : before + length xs ≤ 1024

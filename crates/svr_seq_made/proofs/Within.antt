@@ -10,7 +10,7 @@ use Rattle.svr_seq.specs.Sound.{depth, branch_depth, branch_count, HasFewBranche
 use Rattle.svr_seq_text.specs.declared.text.ActText.{ActText}
 use Rattle.svr_seq_text.specs.declared.text.ActText.TheVariants as t
 use Rattle.svr_seq_text.specs.Tree.{ActTree, printed, chosen, BranchTrees, last_branch, next_branch, act_text, branches_text}
-use Rattle.svr_seq_made.specs.declared.limits.TheConstants.{MOST, MOST_DEPTH}
+use Rattle.svr_seq.specs.declared.limits.TheConstants.{SEQUENCE_LIMIT, CHOICE_LIMIT}
 use Rattle.svr_seq_made.specs.declared.fault.SeqFault.{SeqFault}
 use Rattle.svr_seq_made.specs.Blocks.{value_of, unless, Opened, BlockSeen, act_fits, piece_refusals, acts_refusals}
 use Rattle.svr_seq_made.specs.Trees.{act_of, branch_list}
@@ -78,7 +78,7 @@ module _ (text : ℕ → List ℕ) where
     act-within (chosen at bs) b h l =
         let rest : List SeqFault = acts_refusals text (blk (opened 0 [] ∷ b.opens) b.acts) (branches_text bs ++ t.End ∷ []) in
         let here : piece_refusals b (t.Choose at) ≡ [] = no-front (piece_refusals b (t.Choose at)) rest h in
-        let deep : nat_lt (length b.opens) MOST_DEPTH ≡ true = is-fine (nat_lt (length b.opens) MOST_DEPTH) refusal.SequenceTooLarge at (no-back (unless (act_fits b.opens b.acts) refusal.SequenceTooLarge at) (unless (nat_lt (length b.opens) MOST_DEPTH) refusal.SequenceTooLarge at) here) in
+        let deep : nat_lt (length b.opens) CHOICE_LIMIT ≡ true = is-fine (nat_lt (length b.opens) CHOICE_LIMIT) refusal.SequenceTooLarge at (no-back (unless (act_fits b.opens b.acts) refusal.SequenceTooLarge at) (unless (nat_lt (length b.opens) CHOICE_LIMIT) refusal.SequenceTooLarge at) here) in
         let less : length b.opens < 128 = ltb-true (length b.opens) 128 deep in
         let inner : acts_refusals text (blk (opened 0 [] ∷ b.opens) b.acts) (branches_text bs) ≡ [] =
         no-front (acts_refusals text (blk (opened 0 [] ∷ b.opens) b.acts) (branches_text bs)) (acts_refusals text (state text (blk (opened 0 [] ∷ b.opens) b.acts) (branches_text bs)) (t.End ∷ []))
@@ -91,18 +91,18 @@ module _ (text : ℕ → List ℕ) where
     branches-within (last_branch n x) os acts w done h l f =
         let v : ℕ = value_of (text n) in
         let b : BlockSeen = blk (opened v done ∷ os) acts in
-        let fits : nat_lt (length done) MOST ≡ true = is-fine (nat_lt (length done) MOST) refusal.SequenceTooLarge n (no-front (unless (nat_lt (length done) MOST) refusal.SequenceTooLarge n) (acts_refusals text b (act_text x)) h) in
+        let fits : nat_lt (length done) SEQUENCE_LIMIT ≡ true = is-fine (nat_lt (length done) SEQUENCE_LIMIT) refusal.SequenceTooLarge n (no-front (unless (nat_lt (length done) SEQUENCE_LIMIT) refusal.SequenceTooLarge n) (acts_refusals text b (act_text x)) h) in
         let less : length done < 1024 = ltb-true (length done) 1024 fits in
-        let a : ActIsWithin (suc (length os)) (act_of text x) = act-within x b (no-back (unless (nat_lt (length done) MOST) refusal.SequenceTooLarge n) (acts_refusals text b (act_text x)) h) l in
+        let a : ActIsWithin (suc (length os)) (act_of text x) = act-within x b (no-back (unless (nat_lt (length done) SEQUENCE_LIMIT) refusal.SequenceTooLarge n) (acts_refusals text b (act_text x)) h) l in
         branch-within (suc (length os)) (length done) v (act_of text x) [] a (none-within (suc (length os)) (suc (length done)) l (omega (arith, less)))
     branches-within (next_branch n x bs) os acts w done h l f =
         let v : ℕ = value_of (text n) in
         let b : BlockSeen = blk (opened v done ∷ os) acts in
         let xs : List ActText = act_text x ++ branches_text bs in
-        let fits : nat_lt (length done) MOST ≡ true = is-fine (nat_lt (length done) MOST) refusal.SequenceTooLarge n (no-front (unless (nat_lt (length done) MOST) refusal.SequenceTooLarge n) (acts_refusals text b xs) h) in
+        let fits : nat_lt (length done) SEQUENCE_LIMIT ≡ true = is-fine (nat_lt (length done) SEQUENCE_LIMIT) refusal.SequenceTooLarge n (no-front (unless (nat_lt (length done) SEQUENCE_LIMIT) refusal.SequenceTooLarge n) (acts_refusals text b xs) h) in
         let less : length done < 1024 = ltb-true (length done) 1024 fits in
         let all : acts_refusals text b (act_text x) ++ acts_refusals text (state text b (act_text x)) (branches_text bs) ≡ [] =
-        sym (refused-append text (act_text x) (branches_text bs) b) ∙ no-back (unless (nat_lt (length done) MOST) refusal.SequenceTooLarge n) (acts_refusals text b xs) h in
+        sym (refused-append text (act_text x) (branches_text bs) b) ∙ no-back (unless (nat_lt (length done) SEQUENCE_LIMIT) refusal.SequenceTooLarge n) (acts_refusals text b xs) h in
         let a : ActIsWithin (suc (length os)) (act_of text x) = act-within x b (no-front (acts_refusals text b (act_text x)) (acts_refusals text (state text b (act_text x)) (branches_text bs)) all) l in
         let next : List (ℕ × ActTerm) = done ++ (v, act_of text x) ∷ [] in
         let later : acts_refusals text (blk (opened v next ∷ os) acts) (branches_text bs) ≡ [] =

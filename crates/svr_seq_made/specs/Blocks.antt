@@ -8,7 +8,7 @@ use Rattle.svr_refusal.specs.declared.refusal.Refusal.TheVariants as refusal
 use Rattle.svr_seq.specs.SeqTerm.{ActTerm, print, choose, branches_of}
 use Rattle.svr_seq_text.specs.declared.text.ActText.{ActText}
 use Rattle.svr_seq_text.specs.declared.text.ActText.TheVariants as t
-use Rattle.svr_seq_made.specs.declared.limits.TheConstants.{MOST, MOST_DEPTH}
+use Rattle.svr_seq.specs.declared.limits.TheConstants.{SEQUENCE_LIMIT, CHOICE_LIMIT}
 use Rattle.svr_seq_made.specs.declared.fault.SeqFault.{SeqFault}
 use Rattle.svr_seq_made.specs.declared.fault.SeqFault.TheVariants as e
 
@@ -61,20 +61,20 @@ behind text b (t.Choose at) = record b { opens = record { weight = 0; branches =
 behind text b (t.Branch weight) = record b { opens = weigh_in b.opens (value_of (text weight)) }
 behind text b t.End = close_in b.opens b.acts
 
--- a block has at most MOST acts
+-- a block has at most SEQUENCE_LIMIT acts
 abbrev pub act_fits : List Opened → List ActTerm → Bool
-act_fits [] acts = nat_lt (length acts) MOST
+act_fits [] acts = nat_lt (length acts) SEQUENCE_LIMIT
 act_fits (o ∷ os) acts = true
 
--- a choice has at most MOST branches
+-- a choice has at most SEQUENCE_LIMIT branches
 abbrev pub branch_fits : List Opened → Bool
 branch_fits [] = true
-branch_fits (o ∷ os) = nat_lt (length o.branches) MOST
+branch_fits (o ∷ os) = nat_lt (length o.branches) SEQUENCE_LIMIT
 
 -- what is refused at one piece
 abbrev pub piece_refusals : BlockSeen → ActText → List SeqFault
 piece_refusals b (t.Print name) = unless (act_fits b.opens b.acts) refusal.SequenceTooLarge name
-piece_refusals b (t.Choose at) = unless (act_fits b.opens b.acts) refusal.SequenceTooLarge at ++ unless (nat_lt (length b.opens) MOST_DEPTH) refusal.SequenceTooLarge at
+piece_refusals b (t.Choose at) = unless (act_fits b.opens b.acts) refusal.SequenceTooLarge at ++ unless (nat_lt (length b.opens) CHOICE_LIMIT) refusal.SequenceTooLarge at
 piece_refusals b (t.Branch weight) = unless (branch_fits b.opens) refusal.SequenceTooLarge weight
 piece_refusals b t.End = []
 

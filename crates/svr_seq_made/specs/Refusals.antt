@@ -8,7 +8,7 @@ use Rattle.svr_seq_text.specs.declared.text.PartText.TheVariants as p
 use Rattle.svr_seq_text.specs.declared.text.RuleText.{RuleText}
 use Rattle.svr_seq_text.specs.declared.text.ProdText.{ProdText}
 use Rattle.svr_seq_text.specs.declared.text.SeqText.{SeqText}
-use Rattle.svr_seq_made.specs.declared.limits.TheConstants.{MOST, MOST_TIMES}
+use Rattle.svr_seq.specs.declared.limits.TheConstants.{SEQUENCE_LIMIT, REPEAT_LIMIT}
 use Rattle.svr_seq_made.specs.declared.fault.SeqFault.{SeqFault}
 use Rattle.svr_seq_made.specs.declared.fault.SeqFault.TheVariants as e
 use Rattle.svr_seq_made.specs.Blocks.{value_of, unless, fresh, acts_refusals}
@@ -58,22 +58,22 @@ has_weight text r = nat_lt 0 (weight_of text r.weight)
 -- `fits` tells whether the part, and the rule that it begins, are within the limits
 abbrev pub part_refusals : (ℕ → List ℕ) → Finder → Bool → PartText → List SeqFault
 part_refusals text find fits (p.Name name) = unknown text find name ++ unless fits refusal.SequenceTooLarge name
-part_refusals text find fits (p.Repeat at count name) = unless fits refusal.SequenceTooLarge at ++ (unless (nat_le (value_of (text count)) MOST_TIMES) refusal.SequenceTooLarge count ++ unknown text find name)
+part_refusals text find fits (p.Repeat at count name) = unless fits refusal.SequenceTooLarge at ++ (unless (nat_le (value_of (text count)) REPEAT_LIMIT) refusal.SequenceTooLarge count ++ unknown text find name)
 part_refusals text find fits (p.Block at acts) = unless fits refusal.SequenceTooLarge at ++ acts_refusals text fresh acts
 
 abbrev pub parts_refusals : (ℕ → List ℕ) → Finder → Bool → ℕ → List PartText → List SeqFault
 parts_refusals text find fits i [] = []
-parts_refusals text find fits i (x ∷ xs) = part_refusals text find (fits && nat_lt i MOST) x ++ parts_refusals text find fits (suc i) xs
+parts_refusals text find fits i (x ∷ xs) = part_refusals text find (fits && nat_lt i SEQUENCE_LIMIT) x ++ parts_refusals text find fits (suc i) xs
 
 abbrev pub rules_refusals : (ℕ → List ℕ) → Finder → ℕ → List RuleText → List SeqFault
 rules_refusals text find i [] = []
-rules_refusals text find i (r ∷ rs) = parts_refusals text find (true && nat_lt i MOST) 0 r.parts ++ rules_refusals text find (suc i) rs
+rules_refusals text find i (r ∷ rs) = parts_refusals text find (true && nat_lt i SEQUENCE_LIMIT) 0 r.parts ++ rules_refusals text find (suc i) rs
 
 -- it is not the first of its name; all its rules have weight 0; it is one too many
 abbrev pub head_refusals : (ℕ → List ℕ) → Finder → ℕ → ProdText → List SeqFault
 head_refusals text find i x =
     unless (is_at (find (text x.name)) i) refusal.UnknownProduction x.name
-    ++ (unless (list_any (has_weight text) x.rules) refusal.NoWeight x.name ++ unless (nat_lt i MOST) refusal.SequenceTooLarge x.name)
+    ++ (unless (list_any (has_weight text) x.rules) refusal.NoWeight x.name ++ unless (nat_lt i SEQUENCE_LIMIT) refusal.SequenceTooLarge x.name)
 
 abbrev pub prod_refusals : (ℕ → List ℕ) → Finder → ℕ → ProdText → List SeqFault
 prod_refusals text find i x = head_refusals text find i x ++ rules_refusals text find 0 x.rules

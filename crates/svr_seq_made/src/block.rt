@@ -8,12 +8,11 @@ ghost use Rattle.svr_seq_made.specs.Refusals.{IsFirst, first_of};
 ghost use Rattle.svr_seq_made.specs.Seen.{seen, opens_seen};
 
 use crate::fault::{SeqFault, unless};
-use crate::limits::{MOST, MOST_DEPTH};
 use crate::setting::Setting;
 use sqlite_items::Items;
 use std::alloc::{AllocError, Global};
 use svr_refusal::Refusal;
-use svr_seq::{Act, Branch};
+use svr_seq::{Act, Branch, CHOICE_LIMIT, SEQUENCE_LIMIT};
 use svr_seq_text::ActText;
 
 /// A choice on the way: the weight of the branch at hand, and the branches before it.
@@ -36,7 +35,7 @@ fn branch_fits(opens: &[Open]) -> bool
 {
     match opens.last() {
         None => true,
-        Some(open) => open.branches.len() < MOST,
+        Some(open) => open.branches.len() < SEQUENCE_LIMIT,
     }
 }
 
@@ -92,7 +91,7 @@ impl Block {
         ensures { result ≡ spec.act_fits (seen self.now).opens (seen self.now).acts }
     {
         match self.opens.as_slice().last() {
-            None => self.acts.len() < MOST,
+            None => self.acts.len() < SEQUENCE_LIMIT,
             Some(_) => true,
         }
     }
@@ -105,7 +104,11 @@ impl Block {
             ActText::Print(at) => unless(self.act_fits(), Refusal::SequenceTooLarge, at),
             ActText::Choose(at) => {
                 unless(self.act_fits(), Refusal::SequenceTooLarge, at)?;
-                unless(self.opens.len() < MOST_DEPTH, Refusal::SequenceTooLarge, at)
+                unless(
+                    self.opens.len() < CHOICE_LIMIT,
+                    Refusal::SequenceTooLarge,
+                    at,
+                )
             }
             ActText::Branch(at) => unless(
                 branch_fits(self.opens.as_slice()),

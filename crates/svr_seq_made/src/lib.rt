@@ -6,7 +6,6 @@
 mod block;
 mod entry;
 mod fault;
-mod limits;
 mod numbers;
 mod rules;
 mod setting;
@@ -14,5 +13,4 @@ mod whole;
 
 pub use entry::read_seq;
 pub use fault::SeqFault;
-pub use limits::{MOST, MOST_DEPTH, MOST_TIMES};
 pub use whole::make;

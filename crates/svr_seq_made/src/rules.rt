@@ -1,7 +1,7 @@
 // Parts, rules and productions (IEEE 1800-2017, 18.17).
 
 ghost use Rattle.std.specs.Prelude.{◌≡◌, ◌∷◌, ◌++◌, ◌&&◌, [], nat_lt, length, map, MatchResult};
-ghost use Rattle.svr_seq_made.specs.declared.limits.TheConstants.{MOST};
+ghost use Rattle.svr_seq.specs.declared.limits.TheConstants.{SEQUENCE_LIMIT};
 ghost use Rattle.svr_token.specs.Names.{names_of};
 ghost use Rattle.svr_seq.specs.SeqTerm.{part_term, part_terms, rule_term, rule_terms, production_term};
 ghost use Rattle.svr_seq_made.specs.Making as made;
@@ -11,19 +11,18 @@ ghost use Rattle.svr_seq_made.specs.Tables.{found_in};
 
 use crate::block::acts_of;
 use crate::fault::{SeqFault, keep, unless};
-use crate::limits::{MOST, MOST_TIMES};
 use crate::setting::Setting;
 use sqlite_items::Items;
 use std::alloc::Global;
 use svr_refusal::Refusal;
-use svr_seq::{Part, Production, Rule};
+use svr_seq::{Part, Production, REPEAT_LIMIT, Rule, SEQUENCE_LIMIT};
 use svr_seq_text::{PartText, ProdText, RuleText};
 
 /// Whether one more is within the limits, where all before it are.
 fn has_room<T>(fits: bool, done: &Items<T>) -> bool
-    ensures { result ≡ (fits && nat_lt (length done.now) MOST) }
+    ensures { result ≡ (fits && nat_lt (length done.now) SEQUENCE_LIMIT) }
 {
-    fits && done.len() < MOST
+    fits && done.len() < SEQUENCE_LIMIT
 }
 
 /// A part. `fits` tells whether it is within the limits.
@@ -44,7 +43,7 @@ fn part_of(
         PartText::Repeat { at, count, name } => {
             unless(fits, Refusal::SequenceTooLarge, *at)?;
             let times = set.value(*count);
-            unless(times <= MOST_TIMES, Refusal::SequenceTooLarge, *count)?;
+            unless(times <= REPEAT_LIMIT, Refusal::SequenceTooLarge, *count)?;
             let prod = set.known(*name)?;
             Ok(Part::Expand { prod, times })
         }

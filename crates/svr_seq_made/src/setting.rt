@@ -9,11 +9,11 @@ ghost use Rattle.svr_seq_made.specs.Refusals.{first_of};
 ghost use Rattle.svr_seq_made.specs.Tables.{entry_of, found_in};
 
 use crate::fault::{SeqFault, refused, unless};
-use crate::limits::MOST;
 use crate::numbers::value;
 use indexmap::IndexMap;
 use std::alloc::Global;
 use svr_refusal::Refusal;
+use svr_seq::SEQUENCE_LIMIT;
 use svr_seq_text::{ProdText, RuleText};
 use svr_token::Names;
 
@@ -123,7 +123,7 @@ impl Setting<'_, '_> {
             Refusal::NoWeight,
             prod.name,
         )?;
-        unless(at < MOST, Refusal::SequenceTooLarge, prod.name)
+        unless(at < SEQUENCE_LIMIT, Refusal::SequenceTooLarge, prod.name)
     }
 }
 

@@ -4,7 +4,7 @@ use Rattle.std.proofs.lemmas.Result.{err_from_is_err_and}
 use Rattle.std.proofs.lemmas.List.{nil_from_length}
 use Rattle.svr_token.specs.Names.{names_of}
 use Rattle.svr_seq.specs.SeqTerm.{part_term}
-use Rattle.svr_seq_made.specs.declared.limits.TheConstants.{MOST}
+use Rattle.svr_seq.specs.declared.limits.TheConstants.{SEQUENCE_LIMIT}
 use Rattle.svr_seq_made.specs.Making.{part_made}
 use Rattle.svr_seq_made.specs.Refusals.{IsFirst, part_refusals, parts_refusals}
 use Rattle.svr_seq_made.specs.Tables.{found_in}
@@ -16,7 +16,7 @@ returns-in_err-one c =
     let q = err_from_is_err_and c.from_residual.result c.from_residual.ensures.1 in
     let x = c.in-Some.part.now in
     rw (q.1, q.2)
-    (stop-refused (parts_refusals (names_of c.args.set.now.names) (found_in c.args.set.now.places.now.entries) c.args.fits) (parts_refusals (names_of c.args.set.now.names) (found_in c.args.set.now.places.now.entries) c.args.fits 0 c.args.parts.now) (part_refusals (names_of c.args.set.now.names) (found_in c.args.set.now.places.now.entries) (c.args.fits && nat_lt (length c.parts.done) MOST) x) (length c.parts.done) c.parts.left.now x c.in-Some.others.now c.in_err-one.field-0.0
+    (stop-refused (parts_refusals (names_of c.args.set.now.names) (found_in c.args.set.now.places.now.entries) c.args.fits) (parts_refusals (names_of c.args.set.now.names) (found_in c.args.set.now.places.now.entries) c.args.fits 0 c.args.parts.now) (part_refusals (names_of c.args.set.now.names) (found_in c.args.set.now.places.now.entries) (c.args.fits && nat_lt (length c.parts.done) SEQUENCE_LIMIT) x) (length c.parts.done) c.parts.left.now x c.in-Some.others.now c.in_err-one.field-0.0
     c.in-Some.ensures.cases.0 refl c.parts.invariant.refused (subst (λ z. IsFirst c.in_err-one.field-0.0 (part_refusals (names_of c.args.set.now.names) (found_in c.args.set.now.places.now.entries) z x)) c.has_room.ensures c.in_err-one.ensures))
 
 pub returns-in_err-keep : goal.returns-in_err-keep
@@ -30,7 +30,7 @@ parts-preserved c =
     record {
       refused =
           rw c.in_ok-keep.ensures.kept
-          (next-refused (parts_refusals (names_of c.args.set.now.names) (found_in c.args.set.now.places.now.entries) c.args.fits) (parts_refusals (names_of c.args.set.now.names) (found_in c.args.set.now.places.now.entries) c.args.fits 0 c.args.parts.now) (part_refusals (names_of c.args.set.now.names) (found_in c.args.set.now.places.now.entries) (c.args.fits && nat_lt (length c.parts.done) MOST) x) c.parts.left.now x c.in-Some.others.now c.parts.done c.in_ok-one.one
+          (next-refused (parts_refusals (names_of c.args.set.now.names) (found_in c.args.set.now.places.now.entries) c.args.fits) (parts_refusals (names_of c.args.set.now.names) (found_in c.args.set.now.places.now.entries) c.args.fits 0 c.args.parts.now) (part_refusals (names_of c.args.set.now.names) (found_in c.args.set.now.places.now.entries) (c.args.fits && nat_lt (length c.parts.done) SEQUENCE_LIMIT) x) c.parts.left.now x c.in-Some.others.now c.parts.done c.in_ok-one.one
           c.in-Some.ensures.cases.0 refl c.parts.invariant.refused (subst (λ z. (part_refusals (names_of c.args.set.now.names) (found_in c.args.set.now.places.now.entries) z x) ≡ []) c.has_room.ensures c.in_ok-one.ensures.0));
       made =
           rw c.in_ok-keep.ensures.kept

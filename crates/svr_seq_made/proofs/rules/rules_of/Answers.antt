@@ -4,7 +4,7 @@ use Rattle.std.proofs.lemmas.Result.{err_from_is_err_and}
 use Rattle.std.proofs.lemmas.List.{nil_from_length}
 use Rattle.svr_token.specs.Names.{names_of}
 use Rattle.svr_seq.specs.SeqTerm.{rule_term}
-use Rattle.svr_seq_made.specs.declared.limits.TheConstants.{MOST}
+use Rattle.svr_seq.specs.declared.limits.TheConstants.{SEQUENCE_LIMIT}
 use Rattle.svr_seq_made.specs.Making.{rule_made}
 use Rattle.svr_seq_made.specs.Refusals.{IsFirst, parts_refusals, rules_refusals}
 use Rattle.svr_seq_made.specs.Tables.{found_in}
@@ -16,7 +16,7 @@ returns-in_err-one c =
     let q = err_from_is_err_and c.from_residual.result c.from_residual.ensures.1 in
     let x = c.in-Some.rule.now in
     rw (q.1, q.2)
-    (stop-refused (rules_refusals (names_of c.args.set.now.names) (found_in c.args.set.now.places.now.entries)) (rules_refusals (names_of c.args.set.now.names) (found_in c.args.set.now.places.now.entries) 0 c.args.rules.now) (parts_refusals (names_of c.args.set.now.names) (found_in c.args.set.now.places.now.entries) (true && nat_lt (length c.rules.done) MOST) 0 x.parts) (length c.rules.done) c.rules.left.now x c.in-Some.others.now c.in_err-one.field-0.0
+    (stop-refused (rules_refusals (names_of c.args.set.now.names) (found_in c.args.set.now.places.now.entries)) (rules_refusals (names_of c.args.set.now.names) (found_in c.args.set.now.places.now.entries) 0 c.args.rules.now) (parts_refusals (names_of c.args.set.now.names) (found_in c.args.set.now.places.now.entries) (true && nat_lt (length c.rules.done) SEQUENCE_LIMIT) 0 x.parts) (length c.rules.done) c.rules.left.now x c.in-Some.others.now c.in_err-one.field-0.0
     c.in-Some.ensures.cases.0 refl c.rules.invariant.refused (subst (λ z. IsFirst c.in_err-one.field-0.0 (parts_refusals (names_of c.args.set.now.names) (found_in c.args.set.now.places.now.entries) z 0 x.parts)) c.has_room.ensures c.in_err-one.ensures))
 
 pub returns-in_err-keep : goal.returns-in_err-keep
@@ -30,7 +30,7 @@ rules-preserved c =
     record {
       refused =
           rw c.in_ok-keep.ensures.kept
-          (next-refused (rules_refusals (names_of c.args.set.now.names) (found_in c.args.set.now.places.now.entries)) (rules_refusals (names_of c.args.set.now.names) (found_in c.args.set.now.places.now.entries) 0 c.args.rules.now) (parts_refusals (names_of c.args.set.now.names) (found_in c.args.set.now.places.now.entries) (true && nat_lt (length c.rules.done) MOST) 0 x.parts) c.rules.left.now x c.in-Some.others.now c.rules.done c.in_ok-one.one
+          (next-refused (rules_refusals (names_of c.args.set.now.names) (found_in c.args.set.now.places.now.entries)) (rules_refusals (names_of c.args.set.now.names) (found_in c.args.set.now.places.now.entries) 0 c.args.rules.now) (parts_refusals (names_of c.args.set.now.names) (found_in c.args.set.now.places.now.entries) (true && nat_lt (length c.rules.done) SEQUENCE_LIMIT) 0 x.parts) c.rules.left.now x c.in-Some.others.now c.rules.done c.in_ok-one.one
           c.in-Some.ensures.cases.0 refl c.rules.invariant.refused (subst (λ z. (parts_refusals (names_of c.args.set.now.names) (found_in c.args.set.now.places.now.entries) z 0 x.parts) ≡ []) c.has_room.ensures c.in_ok-one.ensures.0));
       made =
           rw c.in_ok-keep.ensures.kept
