@@ -6,9 +6,13 @@ use Rattle.svr_typed.specs.ExprTerm.{ExprTerm, NodeTerm, RangeTerm, BoundTerm, E
 use Rattle.svr_eval.specs.Reading.{Reading}
 use Rattle.svr_eval.specs.Value.{size_of, sign_of, val, alone}
 use Rattle.svr_eval.specs.Typed.{IsTyped, CanRead}
-use Rattle.svr_script.specs.Numbered.{numbered}
+use Rattle.svr_world.specs.World.{WorldTerm}
+use Rattle.svr_script.specs.Numbered.{numbered, reading_of_world, assigned}
+use Rattle.svr_script.specs.Statement.{all_assigned}
+use Rattle.svr_effect.specs.Mentions.{Mentioned, nothing, mentions, by_places, reading_at}
 use Rattle.svr_effect.specs.Computed.{alone_over, assigned_over, all_assigned_over}
 use Rattle.svr_effect.specs.Stands.{IsComputable, AreComputable, many}
+use Rattle.svr_effect.proofs.Gathered.{Gathers, gathers_one, typed_at_places, readable_at_places, value_at_places}
 
 stored : (t : TExpr) → expr_term t ≡ typed t.width t.signed (node_term t.node)
 stored t = fold_out-TExpr BoundTerm NodeTerm RangeTerm ExprTerm bound_step node_step range_step expr_step t
@@ -28,21 +32,34 @@ width_in (typed w s n) = w
 abbrev signed_in : ExprTerm → Bool
 signed_in (typed w s n) = s
 
-module _ (r : Reading) (e over : TExpr) (env : List ℕ) (copied : expr_term over ≡ numbered (expr_term e)) (outside : env ≡ []) (h : IsComputable r (expr_term e)) where
+-- the copy by places `over`, of what is named alone, and the reading that it is computed over
+module _ (w : WorldTerm) (r : Reading) (e over : TExpr) (env : List ℕ) (copied : expr_term over ≡ by_places (mentions nothing (numbered (expr_term e))) (numbered (expr_term e)))
+    (read : r ≡ reading_at w (mentions nothing (numbered (expr_term e)))) (outside : env ≡ []) (h : IsComputable (reading_of_world w) (expr_term e)) where
+  abbrev names : Mentioned
+  names = mentions nothing (numbered (expr_term e))
+
+  gathered : Gathers w names (numbered (expr_term e))
+  gathered = gathers_one nothing names (numbered (expr_term e)) refl
+
   pub typed_over : IsTyped (expr_term over)
-  typed_over = subst IsTyped (sym copied) h.typed
+  typed_over = subst IsTyped (sym copied) (typed_at_places w names (numbered (expr_term e)) h.typed)
+
+  readable : CanRead r 0 (expr_term over)
+  readable =
+      subst (λ (x : Reading). CanRead x 0 (expr_term over)) (sym read)
+      (subst (λ (x : ExprTerm). CanRead (reading_at w names) 0 x) (sym copied) (readable_at_places w names (numbered (expr_term e)) gathered h.reads))
 
   pub reads_over : CanRead r (length env) (expr_term over)
-  reads_over = subst (λ (is : List ℕ). CanRead r (length is) (expr_term over)) (sym outside) (subst (λ (x : ExprTerm). CanRead r 0 x) (sym copied) h.reads)
+  reads_over = subst (λ (is : List ℕ). CanRead r (length is) (expr_term over)) (sym outside) readable
 
   same_width : over.width ≡ e.width
-  same_width = sym (ap width_in (stored over)) ∙ ap width_in copied ∙ ap (λ (x : ExprTerm). width_in (numbered x)) (stored e)
+  same_width = sym (ap width_in (stored over)) ∙ ap width_in copied ∙ ap (λ (x : ExprTerm). width_in (by_places names (numbered x))) (stored e)
 
   same_size : size_of (expr_term over) ≡ size_of (expr_term e)
   same_size = own_width over typed_over ∙ same_width ∙ sym (own_width e h.own)
 
   same_signed : over.signed ≡ e.signed
-  same_signed = sym (ap signed_in (stored over)) ∙ ap signed_in copied ∙ ap (λ (x : ExprTerm). signed_in (numbered x)) (stored e)
+  same_signed = sym (ap signed_in (stored over)) ∙ ap signed_in copied ∙ ap (λ (x : ExprTerm). signed_in (by_places names (numbered x))) (stored e)
 
   same_sign : sign_of (expr_term over) ≡ sign_of (expr_term e)
   same_sign = own_signed over typed_over ∙ same_signed ∙ sym (own_signed e h.own)
@@ -51,8 +68,10 @@ module _ (r : Reading) (e over : TExpr) (env : List ℕ) (copied : expr_term ove
   pub size_alone : size_of (expr_term over) ≡ size_of (expr_term e)
   size_alone = same_size
 
-  pub value_alone : alone r env (expr_term over) ≡ alone_over r (expr_term e)
-  value_alone = λ k. val r (outside k) (copied k) (same_size k) (same_sign k)
+  pub value_alone : alone r env (expr_term over) ≡ alone_over (reading_of_world w) (expr_term e)
+  value_alone =
+      (λ k. val (read k) (outside k) (copied k) (same_size k) (same_sign k))
+      ∙ value_at_places w names (numbered (expr_term e)) gathered (size_of (expr_term e)) (sign_of (expr_term e))
 
   -- at a width that is no less than its own
   pub wide_at : (width : ℕ) → over.width ≤ max width e.width
@@ -61,8 +80,10 @@ module _ (r : Reading) (e over : TExpr) (env : List ℕ) (copied : expr_term ove
   pub high_at : (width : ℕ) → width ≤ 64 → max width e.width ≤ 64
   high_at width le = omega (arith, le, at_most e h.own)
 
-  pub value_at : (width : ℕ) → val r env (expr_term over) (max width e.width) e.signed ≡ val r [] (numbered (expr_term e)) (max width (size_of (expr_term e))) (sign_of (expr_term e))
-  value_at width = λ k. val r (outside k) (copied k) (max width (sym (own_width e h.own) k)) (sym (own_signed e h.own) k)
+  pub value_at : (width : ℕ) → val r env (expr_term over) (max width e.width) e.signed ≡ val (reading_of_world w) [] (numbered (expr_term e)) (max width (size_of (expr_term e))) (sign_of (expr_term e))
+  value_at width =
+      (λ k. val (read k) (outside k) (copied k) (max width (sym (own_width e h.own) k)) (sym (own_signed e h.own) k))
+      ∙ value_at_places w names (numbered (expr_term e)) gathered (max width (size_of (expr_term e))) (sign_of (expr_term e))
 
 -- a value as a number
 pub place_same : (r : Reading) (e : TExpr) → IsComputable r (expr_term e) → (width value : ℕ) → width ≡ size_of (expr_term e) → value ≡ alone_over r (expr_term e)
@@ -91,3 +112,8 @@ one_assigned r width es i x numbers value lt is got before =
 pub all_long : (r : Reading) (width : ℕ) (es : ExprTerms) → length (all_assigned_over r width es) ≡ many es
 all_long r width no_exprs = refl
 all_long r width (more_exprs e es) = ap suc (all_long r width es)
+
+-- over all objects of a world they are those of the statement
+pub all_in_world : (w : WorldTerm) (width : ℕ) (es : ExprTerms) → all_assigned_over (reading_of_world w) width es ≡ all_assigned w width es
+all_in_world w width no_exprs = refl
+all_in_world w width (more_exprs e es) = ap (λ (ns : List ℕ). assigned w width e ∷ ns) (all_in_world w width es)

@@ -1,6 +1,8 @@
 pub mod Computed
 pub mod Copies
-pub mod Together
 pub mod Written
 pub mod Flats
-pub mod Blind
+pub mod Renamed
+pub mod Gathered
+pub mod PlacedLists
+pub mod Rows

@@ -15,6 +15,10 @@ abbrev pub wanted_by : List Bool → List ℕ → List Bool
 wanted_by wanted [] = wanted
 wanted_by wanted (c ∷ cs) = wanted_by (slice_set wanted c true) cs
 
+-- what was wanted still is
+abbrev pub KeepsWanted : List Bool → List Bool → Type 0
+KeepsWanted old new = (k : ℕ) → slice_index_or old k true ≡ true → slice_index_or new k true ≡ true
+
 -- what is made of a class
 abbrev pub wanted_class : List Bool → List ClassTerm → ℕ → FlatTerm
 wanted_class wanted cs k = if slice_index_or wanted k true then flat_class_of cs k else no_class

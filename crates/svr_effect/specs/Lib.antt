@@ -1,5 +1,7 @@
 pub mod Inherited
+pub mod Mentions
+pub mod Named
 pub mod Objects
-pub mod Sight
+pub mod Renamed
 pub mod Computed
 pub mod Stands

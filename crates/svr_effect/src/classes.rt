@@ -5,17 +5,18 @@ ghost use Rattle.std.specs.List.{range_with_len};
 ghost use Rattle.svr_typed.specs.ClassTerm.{flat_term, class_terms};
 ghost use Rattle.svr_typed.specs.StmtTerm.{design_term};
 ghost use Rattle.svr_flat.specs.Flat.{no_class};
+ghost use Rattle.svr_flat.specs.Known.{AreKnown};
 ghost use Rattle.svr_world.specs.World.{kind_class, declared_classes};
 ghost use Rattle.svr_script.specs.Statement.{flat_of_var};
-ghost use Rattle.svr_effect.specs.Inherited.{AreClasses, wanted_class, wanted_by};
+ghost use Rattle.svr_effect.specs.Inherited.{AreClasses, KeepsWanted, wanted_class, wanted_by};
 
 use crate::declared::class_of_var;
 use sqlite_items::Items;
 use std::alloc::Global;
-use svr_flat::flatten;
-use svr_typed::{Design, FlatClass, NoMemory, TVar, VarKind};
+use svr_flat::{Known, flatten_over};
+use svr_typed::{Design, FlatClass, NoMemory, TClass, TVar, VarKind};
 
-/// The classes of a script by number, those that a variable has with what they inherit, and one of which nothing is declared, in place of those that there are not. What a class inherits is made for no other, since a chain of classes that all add something inherits more than it has.
+/// The classes of a script by number, those that a variable has with what they inherit, and those that two of them are made from in different ways; one of which nothing is declared in place of those that there are not. What a class inherits is made for no other, since a chain of classes that all add something inherits more than it has.
 #[derive(Drop)]
 pub struct Classes {
     pub flats: Items<FlatClass>,
@@ -87,23 +88,57 @@ fn is_wanted(wanted: &[bool], class: u32) -> bool
     }
 }
 
+/// The base of a class from which something is made has something made from it, and is wanted if it had so before.
+fn want_fork(wanted: &mut Vec<bool>, below: &mut Vec<bool>, class: u32, base: Option<u32>)
+    ensures { KeepsWanted wanted.old.items wanted.new.items }
+{
+    let Some(base) = base else {
+        return;
+    };
+    if !is_wanted(wanted.as_slice(), class) && !is_wanted(below.as_slice(), class) {
+        return;
+    }
+    if is_wanted(below.as_slice(), base) {
+        want(wanted, base);
+    } else {
+        want(below, base);
+    }
+}
+
+/// Those that are wanted, and those that two of them are made from in different ways: then each other class is a step on the way to one of them alone.
+fn with_forks(alloc: Global, classes: &[TClass], wanted: Vec<bool>) -> Result<Vec<bool>, NoMemory>
+    ensures { IfOk result (λ marks. KeepsWanted wanted.items marks.items) }
+{
+    let mut at = class_count(classes.len())?;
+    let mut marks = wanted;
+    let mut below = vec![in alloc; false; classes.len()]?;
+    let mut left = classes;
+    'classes: while let Some((class, others)) = left.split_last() {
+        at -= 1;
+        want_fork(&mut marks, &mut below, at, class.base);
+        left = others;
+    }
+    Ok(marks)
+}
+
 /// A class with what it inherits, where it is wanted.
 fn flat_class(
     alloc: Global,
     design: &Design,
-    wanted: &[bool],
+    known: &Known<'_>,
     class: u32,
 ) -> Result<FlatClass, NoMemory>
-    ensures { IfOk result (λ flat. flat_term flat ≡ wanted_class wanted.now (class_terms design.now.classes) class) }
+    requires { AreKnown (class_terms design.now.classes) (map flat_term known.now.flats.now) known.now.marks.now }
+    ensures { IfOk result (λ flat. flat_term flat ≡ wanted_class known.now.marks.now (class_terms design.now.classes) class) }
 {
-    if is_wanted(wanted, class) {
-        flatten(alloc, design, class)
+    if is_wanted(known.marks, class) {
+        flatten_over(alloc, design, known, class)
     } else {
         Ok(no_class(alloc))
     }
 }
 
-/// Each class that is wanted with what it inherits.
+/// Each class that is wanted with what it inherits, from the nearest above it that is wanted too.
 fn flat_classes(
     alloc: Global,
     design: &Design,
@@ -114,7 +149,12 @@ fn flat_classes(
     let count = class_count(design.classes.len())?;
     let mut flats = Items::new(alloc);
     for class in 0..count {
-        flats.push(flat_class(alloc, design, wanted, class)?)?;
+        let known = Known {
+            flats: flats.as_slice(),
+            marks: wanted,
+        };
+        let flat = flat_class(alloc, design, &known, class)?;
+        flats.push(flat)?;
     }
     Ok(flats)
 }
@@ -125,7 +165,8 @@ impl Classes {
         ensures { IfOk result (λ x. AreClasses (design_term design.now) x) }
     {
         let wanted = wanted_classes(alloc, design.vars.as_slice(), design.classes.len())?;
-        let flats = flat_classes(alloc, design, &wanted)?;
+        let marks = with_forks(alloc, design.classes.as_slice(), wanted)?;
+        let flats = flat_classes(alloc, design, &marks)?;
         let none = no_class(alloc);
         Ok(Classes { flats, none })
     }

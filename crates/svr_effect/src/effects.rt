@@ -14,8 +14,6 @@ ghost use Rattle.svr_effect.specs.Stands.{AllCanBe, CanBeComputed, IsWide, Stand
 
 use crate::classes::Classes;
 use crate::declared::{width_of_prop, width_of_var};
-use crate::objects::seen;
-use crate::sight::{either_reads, reads_property, some_reads};
 use crate::values::{all_assigned, assigned, is_on, place_read};
 use sqlite_items::Items;
 use std::alloc::Global;
@@ -81,15 +79,13 @@ fn set_scalar(
     width: u8,
     value: &TExpr,
 ) -> Result<(), NoMemory>
-    requires whole { IsWhole world.old }
     requires made { IsMade world.old object }
     requires wide { IsWide width }
     requires computed { CanBeComputed world.old (expr_term value.now) }
     ensures effect { OnOk result (world.new ≡ written world.old object prop None (assigned world.old width (expr_term value.now))) }
     ensures failed { OnErr result (world.new ≡ world.old) }
 {
-    let objects = seen(alloc, world, reads_property(value))?;
-    let number = assigned(alloc, &objects, width, value)?;
+    let number = assigned(alloc, world, width, value)?;
     world.set(object, prop, 0, number);
     Ok(())
 }
@@ -104,7 +100,6 @@ fn set_element(
     width: u8,
     value: &TExpr,
 ) -> Result<(), NoMemory>
-    requires whole { IsWhole world.old }
     requires made { IsMade world.old object }
     requires wide { IsWide width }
     requires index { CanBeComputed world.old (expr_term index.now) }
@@ -112,9 +107,8 @@ fn set_element(
     ensures effect { OnOk result (world.new ≡ written world.old object prop (Some (expr_term index.now)) (assigned world.old width (expr_term value.now))) }
     ensures failed { OnErr result (world.new ≡ world.old) }
 {
-    let objects = seen(alloc, world, either_reads(index, value))?;
-    let number = assigned(alloc, &objects, width, value)?;
-    let place = place_read(alloc, &objects, index)?;
+    let number = assigned(alloc, world, width, value)?;
+    let place = place_read(alloc, world, index)?;
     write(world, object, prop, place, number);
     Ok(())
 }
@@ -128,7 +122,6 @@ fn set_pattern(
     width: u8,
     values: &[TExpr],
 ) -> Result<(), NoMemory>
-    requires whole { IsWhole world.old }
     requires made { IsMade world.old object }
     requires wide { IsWide width }
     requires short { many (expr_terms values.now) ≤ ELEMENT_LIMIT }
@@ -136,8 +129,7 @@ fn set_pattern(
     ensures effect { OnOk result (world.new ≡ with_numbers world.old object prop (all_assigned world.old width (expr_terms values.now))) }
     ensures failed { OnErr result (world.new ≡ world.old) }
 {
-    let objects = seen(alloc, world, some_reads(values))?;
-    let numbers = all_assigned(alloc, &objects, width, values)?;
+    let numbers = all_assigned(alloc, world, width, values)?;
     replace(alloc, world, object, prop, numbers)
 }
 
@@ -166,14 +158,12 @@ fn set_var(
     width: u8,
     value: &TExpr,
 ) -> Result<(), NoMemory>
-    requires whole { IsWhole world.old }
     requires wide { IsWide width }
     requires computed { CanBeComputed world.old (expr_term value.now) }
     ensures effect { OnOk result (world.new ≡ with_script world.old var (assigned world.old width (expr_term value.now))) }
     ensures failed { OnErr result (world.new ≡ world.old) }
 {
-    let objects = seen(alloc, world, reads_property(value))?;
-    let number = assigned(alloc, &objects, width, value)?;
+    let number = assigned(alloc, world, width, value)?;
     world.script_set(var, number);
     Ok(())
 }
@@ -186,14 +176,12 @@ fn set_rand_mode(
     prop: Option<u32>,
     on: &TExpr,
 ) -> Result<(), NoMemory>
-    requires whole { IsWhole world.old }
     requires made { IsMade world.old object }
     requires computed { CanBeComputed world.old (expr_term on.now) }
     ensures effect { OnOk result (world.new ≡ with_rand_mode world.old object prop (is_on world.old (expr_term on.now))) }
     ensures failed { OnErr result (world.new ≡ world.old) }
 {
-    let objects = seen(alloc, world, reads_property(on))?;
-    let on = is_on(alloc, &objects, on)?;
+    let on = is_on(alloc, world, on)?;
     world.rand_mode(object, prop, on);
     Ok(())
 }
@@ -206,14 +194,12 @@ fn set_block_mode(
     block: Option<u32>,
     on: &TExpr,
 ) -> Result<(), NoMemory>
-    requires whole { IsWhole world.old }
     requires made { IsMade world.old object }
     requires computed { CanBeComputed world.old (expr_term on.now) }
     ensures effect { OnOk result (world.new ≡ with_block_mode world.old object block (is_on world.old (expr_term on.now))) }
     ensures failed { OnErr result (world.new ≡ world.old) }
 {
-    let objects = seen(alloc, world, reads_property(on))?;
-    let on = is_on(alloc, &objects, on)?;
+    let on = is_on(alloc, world, on)?;
     world.constraint_mode(object, block, on);
     Ok(())
 }

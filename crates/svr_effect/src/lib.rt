@@ -7,9 +7,10 @@ mod classes;
 mod declared;
 mod effects;
 mod memory;
+mod mention;
 mod numbered;
 mod objects;
-mod sight;
+mod places;
 mod values;
 
 pub use classes::Classes;

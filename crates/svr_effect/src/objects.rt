@@ -1,12 +1,12 @@
-// The numbers of all objects, as expressions of statements read them.
+// The numbers of objects and script variables, as expressions of statements read them.
 
-ghost use Rattle.std.specs.Prelude.{◌≡◌, ◌*◌, map, IfOk};
-ghost use Rattle.std.specs.List.{range_with_len};
+ghost use Rattle.std.specs.Prelude.{◌≡◌, map, slice_index, IfOk};
 ghost use Rattle.svr_eval.specs.Reading.{reading_of};
-ghost use Rattle.svr_script.specs.Numbered.{reading_of_world};
-ghost use Rattle.svr_effect.specs.Objects.{numbers_in, size_in, IsWhole};
-ghost use Rattle.svr_effect.specs.Sight.{script_alone, seen};
+ghost use Rattle.svr_effect.specs.Mentions.{reading_at};
+ghost use Rattle.svr_effect.specs.Named.{mentioned};
+ghost use Rattle.svr_effect.specs.Objects.{numbers_in, size_in};
 
+use crate::mention::Names;
 use sqlite_items::Items;
 use std::alloc::Global;
 use svr_eval::Assign;
@@ -25,76 +25,65 @@ fn numbers_in(alloc: Global, world: &World, place: u32) -> Result<Items<u64>, No
     }
 }
 
-/// The numbers of the first `count` properties of all objects together.
-fn all_numbers(alloc: Global, world: &World, count: u32) -> Result<Items<Items<u64>>, NoMemory>
-    ensures { IfOk result (λ rows. rows ≡ map (numbers_in world.now) (range_with_len 0 count)) }
+/// The numbers of the properties at these places of all objects together.
+fn numbers_at(alloc: Global, world: &World, places: &[u32]) -> Result<Items<Items<u64>>, NoMemory>
+    ensures { IfOk result (λ rows. rows ≡ map (numbers_in world.now) places.now) }
 {
     let mut rows = Items::new(alloc);
-    for place in 0..count {
-        rows.push(numbers_in(alloc, world, place)?)?;
+    let mut left = places;
+    'places: while let Some((place, others)) = left.split_first() {
+        rows.push(numbers_in(alloc, world, *place)?)?;
+        left = others;
     }
     Ok(rows)
 }
 
-/// The sizes of the first `count` properties of all objects together.
-fn all_sizes(alloc: Global, world: &World, count: u32) -> Result<Items<u32>, NoMemory>
-    ensures { IfOk result (λ sizes. sizes ≡ map (size_in world.now) (range_with_len 0 count)) }
+/// The sizes of the properties at these places of all objects together.
+fn sizes_at(alloc: Global, world: &World, places: &[u32]) -> Result<Items<u32>, NoMemory>
+    ensures { IfOk result (λ sizes. sizes ≡ map (size_in world.now) places.now) }
 {
     let mut sizes = Items::new(alloc);
-    for place in 0..count {
-        sizes.push(world.size(place / PROPERTY_LIMIT, place % PROPERTY_LIMIT))?;
+    let mut left = places;
+    'places: while let Some((place, others)) = left.split_first() {
+        sizes.push(world.size(*place / PROPERTY_LIMIT, *place % PROPERTY_LIMIT))?;
+        left = others;
     }
     Ok(sizes)
 }
 
-/// How many places the properties of so many variables have; so many that they cannot be counted are in no memory.
-fn place_count(variables: usize) -> Result<u32, NoMemory>
-    ensures { IfOk result (λ count. count ≡ variables * 1024) }
+/// The number of a script variable, 0 where there is none.
+fn variable_at(script: &[u64], variable: u32) -> u64
+    ensures { result ≡ slice_index script.now variable }
 {
-    let count = variables as u128 * u128::from(PROPERTY_LIMIT);
-    if count > u128::from(u32::MAX) {
-        return Err(NoMemory);
+    match script.get(variable as usize) {
+        Some(number) => *number,
+        None => 0,
     }
-    Ok(count as u32)
 }
 
-/// All objects and script variables of a world.
-fn all_objects(alloc: Global, world: &World) -> Result<Assign, NoMemory>
-    requires { IsWhole world.now }
-    ensures { IfOk result (λ a. reading_of a ≡ reading_of_world world.now) }
+/// The numbers of these script variables.
+fn variables_at(alloc: Global, script: &[u64], variables: &[u32]) -> Result<Items<u64>, NoMemory>
+    ensures { IfOk result (λ numbers. numbers ≡ map (slice_index script.now) variables.now) }
 {
-    let variables = world.script();
-    let count = place_count(variables.len())?;
-    let values = all_numbers(alloc, world, count)?;
-    let sizes = all_sizes(alloc, world, count)?;
-    let script = Items::from_slice(alloc, variables)?;
+    let mut numbers = Items::new(alloc);
+    let mut left = variables;
+    'variables: while let Some((variable, others)) = left.split_first() {
+        numbers.push(variable_at(script, *variable))?;
+        left = others;
+    }
+    Ok(numbers)
+}
+
+/// What a world has at these names, each at its place among them.
+pub(crate) fn seen(alloc: Global, world: &World, names: &Names) -> Result<Assign, NoMemory>
+    ensures { IfOk result (λ a. reading_of a ≡ reading_at world.now (mentioned names.now)) }
+{
+    let values = numbers_at(alloc, world, names.props.as_slice())?;
+    let sizes = sizes_at(alloc, world, names.props.as_slice())?;
+    let script = variables_at(alloc, world.script(), names.vars.as_slice())?;
     Ok(Assign {
         values,
         sizes,
         script,
     })
-}
-
-/// The script variables of a world, and no object.
-fn script_alone(alloc: Global, world: &World) -> Result<Assign, NoMemory>
-    ensures { IfOk result (λ a. reading_of a ≡ script_alone world.now) }
-{
-    let script = Items::from_slice(alloc, world.script())?;
-    Ok(Assign {
-        values: Items::new(alloc),
-        sizes: Items::new(alloc),
-        script,
-    })
-}
-
-/// What expressions are computed over of which some read a property, or none: then no object is looked at.
-pub(crate) fn seen(alloc: Global, world: &World, reads: bool) -> Result<Assign, NoMemory>
-    requires { IsWhole world.now }
-    ensures { IfOk result (λ a. reading_of a ≡ seen world.now reads) }
-{
-    if reads {
-        all_objects(alloc, world)
-    } else {
-        script_alone(alloc, world)
-    }
 }

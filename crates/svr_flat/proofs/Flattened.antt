@@ -3,6 +3,7 @@ use Rattle.std.proofs.Common.{◌≡◌, ◌<◌, ◌≤◌, ℕ, zero, suc, ◌
 use Rattle.std.proofs.lemmas.Bool.Decides.{nat_tests}
 use Rattle.svr_typed.specs.ClassTerm.{FlatTerm, ClassTerm}
 use Rattle.svr_flat.specs.Flat.{no_class, derived_class, base_of, flat_after, flat_class_of}
+use Rattle.svr_flat.specs.Known.{knows, unknown, AreKnown}
 use Rattle.svr_flat.specs.Lineage.{below, class_base, base_before, derived_if, class_over, classes_over, flat_if, count_to}
 
 -- ---- places of lists
@@ -97,17 +98,34 @@ pub below_count : (n : ℕ) (o : Option ℕ) → count_to (below n o) ≤ n
 below_count n None = omega arith
 below_count n (Some b) = tested_count b n (nat_lt b n) refl
 
+-- what goes on is there, and each step goes further up
+pub unknown_some : (count : ℕ) (marks : List Bool) (o : Option ℕ) (b : ℕ) → unknown count marks o ≡ Some b → o ≡ Some b
+unknown_some count marks None b h = absurd (cc)
+unknown_some count marks (Some a) b h = either (knows count marks a) h
+  where
+    either : (t : Bool) → (if t then None else Some a) ≡ Some b → Some a ≡ Some b
+    either true e = absurd (cc)
+    either false e = e
+
+pub fewer : (cs : List ClassTerm) (n : ℕ) (here above : Option ℕ) → here ≡ Some n → above ≡ base_before cs n → count_to above < count_to here
+fewer cs n here above is next =
+    let less = below_count n (class_base (slice_get cs n)) in
+    subst (λ (o : Option ℕ). count_to above < count_to o) (sym is) (subst (λ (o : Option ℕ). count_to o < n + 1) (sym next) (omega (arith, less)))
+
+-- where the lineage ends, it ends at no class or at one that is known
+pub base_is : (cs : List ClassTerm) (flats : List FlatTerm) (marks : List Bool) (o : Option ℕ) → AreKnown cs flats marks → unknown (length flats) marks o ≡ None → base_of flats o ≡ flat_if cs o
+base_is cs flats marks None known ended = refl
+base_is cs flats marks (Some b) known ended = either (knows (length flats) marks b) refl ended
+  where
+    either : (t : Bool) → knows (length flats) marks b ≡ t → (if t then None else Some b) ≡ None → base_of flats (Some b) ≡ flat_if cs (Some b)
+    either true is e = known b is
+    either false is e = absurd (cc)
+
 -- a step of the loop that goes up
 pub lineage_step : (cs : List ClassTerm) (old new : List ℕ) (n : ℕ) (here above : Option ℕ) (whole : FlatTerm) → new ≡ old ++ n ∷ [] → above ≡ base_before cs n → here ≡ Some n
     → classes_over cs old (flat_if cs here) ≡ whole → classes_over cs new (flat_if cs above) ≡ whole
 lineage_step cs old new n here above whole pushed base found told =
     (λ i. classes_over cs (pushed i) (flat_if cs (base i))) ∙ lineage_more cs old n ∙ sym (ap (λ o. classes_over cs old (flat_if cs o)) found) ∙ told
-
--- a step of the loop that goes down
-pub parts_step : (cs : List ClassTerm) (old new : List ℕ) (n : ℕ) (before after whole : FlatTerm) → old ≡ new ++ n ∷ [] → after ≡ class_over cs before n
-    → classes_over cs old before ≡ whole → classes_over cs new after ≡ whole
-parts_step cs old new n before after whole popped derived told =
-    ap (classes_over cs new) derived ∙ sym (classes_over-push cs new n before) ∙ sym (ap (λ ns. classes_over cs ns before) popped) ∙ told
 
 -- ---- laws of the definition
 

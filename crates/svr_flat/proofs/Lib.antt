@@ -1,2 +1,4 @@
 pub mod Flattened
 pub mod Blocks
+pub mod Listed
+pub mod Stacked

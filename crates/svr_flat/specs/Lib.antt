@@ -1,4 +1,6 @@
+pub mod Along
 pub mod Examples
 pub mod Flat
+pub mod Known
 pub mod Lineage
-pub mod Parts
+pub mod Named

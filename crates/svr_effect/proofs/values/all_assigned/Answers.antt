@@ -1,16 +1,16 @@
 use Rattle.std.proofs.Common.{ℕ, ◌+◌, List, ◌++◌, drop, ◌∙◌, ap, arith}
 use Rattle.svr_typed.specs.ExprTerm.{expr_terms}
-use Rattle.svr_eval.specs.Reading.{reading_of}
+use Rattle.svr_script.specs.Numbered.{reading_of_world}
 use Rattle.svr_effect.specs.Computed.{all_assigned_over}
 use Rattle.svr_effect.proofs.Computed.{one_computable, one_assigned}
 use Rattle.svr_effect.proofs.values.all_assigned.Goals as goal
 
 pub assigned-requires-clause-computed : goal.assigned-requires-clause-computed
-assigned-requires-clause-computed c = one_computable (reading_of c.args.objects.now) c.args.values.now c.loop-e.e-index c.e-item.result (omega arith) c.e-item.is c.requires.computed
+assigned-requires-clause-computed c = one_computable (reading_of_world c.args.world.now) c.args.values.now c.loop-e.e-index c.e-item.result (omega arith) c.e-item.is c.requires.computed
 
 pub loop-e-preserved : goal.loop-e-preserved
 loop-e-preserved c =
-    let r = reading_of c.args.objects.now in
+    let r = reading_of_world c.args.world.now in
     let es = c.args.values.now in
     ap (λ (ns : List ℕ). ns ++ all_assigned_over r c.args.width (expr_terms (drop (c.loop-e.e-index + 1) es))) c.in_ok-push.ensures.ok
     ∙ one_assigned r c.args.width es c.loop-e.e-index c.e-item.result c.loop-e.numbers c.in_ok-assigned.field-0 (omega arith) c.e-item.is c.in_ok-assigned.ensures c.loop-e.invariant

@@ -9,21 +9,21 @@ use Rattle.svr_effect.proofs.values.assigned.Goals as goal
 
 pub value_at-computed-requires-clause-typed : goal.value_at-computed-requires-clause-typed
 value_at-computed-requires-clause-typed c =
-    computed.typed_over (reading_of c.args.objects.now) c.args.e.now c.in_ok-over_all.over_all c.new-outside.result c.in_ok-over_all.ensures c.new-outside.ensures c.requires.computed
+    computed.typed_over c.args.world.now (reading_of c.in_ok-own.own.objects) c.args.e.now c.in_ok-own.own.expr c.new-outside.result c.in_ok-own.ensures.expr c.in_ok-own.ensures.objects c.new-outside.ensures c.requires.computed
 
 pub value_at-computed-requires-clause-reads : goal.value_at-computed-requires-clause-reads
 value_at-computed-requires-clause-reads c =
-    computed.reads_over (reading_of c.args.objects.now) c.args.e.now c.in_ok-over_all.over_all c.new-outside.result c.in_ok-over_all.ensures c.new-outside.ensures c.requires.computed
+    computed.reads_over c.args.world.now (reading_of c.in_ok-own.own.objects) c.args.e.now c.in_ok-own.own.expr c.new-outside.result c.in_ok-own.ensures.expr c.in_ok-own.ensures.objects c.new-outside.ensures c.requires.computed
 
 pub value_at-computed-requires-clause-wide : goal.value_at-computed-requires-clause-wide
 value_at-computed-requires-clause-wide c =
-    subst (λ (n : ℕ). c.in_ok-over_all.over_all.width ≤ n) (sym c.wider-whole.ensures)
-    (computed.wide_at (reading_of c.args.objects.now) c.args.e.now c.in_ok-over_all.over_all c.new-outside.result c.in_ok-over_all.ensures c.new-outside.ensures c.requires.computed c.args.width)
+    subst (λ (n : ℕ). c.in_ok-own.own.expr.width ≤ n) (sym c.wider-whole.ensures)
+    (computed.wide_at c.args.world.now (reading_of c.in_ok-own.own.objects) c.args.e.now c.in_ok-own.own.expr c.new-outside.result c.in_ok-own.ensures.expr c.in_ok-own.ensures.objects c.new-outside.ensures c.requires.computed c.args.width)
 
 pub value_at-computed-requires-clause-high : goal.value_at-computed-requires-clause-high
 value_at-computed-requires-clause-high c =
     subst (λ (n : ℕ). n ≤ 64) (sym c.wider-whole.ensures)
-    (computed.high_at (reading_of c.args.objects.now) c.args.e.now c.in_ok-over_all.over_all c.new-outside.result c.in_ok-over_all.ensures c.new-outside.ensures c.requires.computed c.args.width c.requires.wide.1)
+    (computed.high_at c.args.world.now (reading_of c.in_ok-own.own.objects) c.args.e.now c.in_ok-own.own.expr c.new-outside.result c.in_ok-own.ensures.expr c.in_ok-own.ensures.objects c.new-outside.ensures c.requires.computed c.args.width c.requires.wide.1)
 
 pub cut-requires-clause-low : goal.cut-requires-clause-low
 cut-requires-clause-low c = c.requires.wide.0
@@ -37,5 +37,5 @@ returns c =
     ∙ ap (λ (b : Bits). b.value) c.cut.ensures
     ∙ ap (cut_of c.args.width)
     (c.value_at-computed.ensures.value
-    ∙ ap (λ (n : ℕ). val (reading_of c.args.objects.now) c.new-outside.result (expr_term c.in_ok-over_all.over_all) n c.args.e.now.signed) c.wider-whole.ensures
-    ∙ computed.value_at (reading_of c.args.objects.now) c.args.e.now c.in_ok-over_all.over_all c.new-outside.result c.in_ok-over_all.ensures c.new-outside.ensures c.requires.computed c.args.width)
+    ∙ ap (λ (n : ℕ). val (reading_of c.in_ok-own.own.objects) c.new-outside.result (expr_term c.in_ok-own.own.expr) n c.args.e.now.signed) c.wider-whole.ensures
+    ∙ computed.value_at c.args.world.now (reading_of c.in_ok-own.own.objects) c.args.e.now c.in_ok-own.own.expr c.new-outside.result c.in_ok-own.ensures.expr c.in_ok-own.ensures.objects c.new-outside.ensures c.requires.computed c.args.width)

@@ -1,5 +1,6 @@
-use Rattle.svr_flat.proofs.Flattened.{parts_step}
+use Rattle.std.proofs.Common.{sym, ◌∙◌, true≢false, nat_lt}
+use Rattle.std.proofs.Math.Bool.{and-false}
 use Rattle.svr_flat.proofs.inheritance.flatten.Goals as goal
 
-pub loop-at-preserved : goal.loop-at-preserved
-loop-at-preserved c = parts_step _ _ _ c.in-Some.at _ _ _ c.in-Some.ensures.items c.in_ok-parts.ensures c.loop-at.invariant
+pub flatten_over-requires : goal.flatten_over-requires
+flatten_over-requires c = λ b h. absurd (true≢false (sym h ∙ and-false (nat_lt b 0)))

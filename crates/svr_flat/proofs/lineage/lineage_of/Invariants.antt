@@ -4,8 +4,8 @@ use Rattle.svr_flat.specs.Flat.{flat_class_of}
 use Rattle.svr_flat.specs.Lineage.{classes_over, flat_if, count_to}
 use Rattle.svr_flat.proofs.lineage.lineage_of.Given as goal
 
-abbrev pub invariant-loop-next : goal.invariant-loop-next
-invariant-loop-next l = classes_over (class_terms l.classes) l.lineage.items (flat_if (class_terms l.classes) l.next) ≡ flat_class_of (class_terms l.classes) l.fn.class
+abbrev pub invariant-up : goal.invariant-up
+invariant-up l = classes_over (class_terms l.classes) l.lineage.items (flat_if (class_terms l.classes) l.next) ≡ flat_class_of (class_terms l.classes) l.fn.class
 
-abbrev pub decreases-loop-next : goal.decreases-loop-next
-decreases-loop-next l = count_to l.next
+abbrev pub decreases-up : goal.decreases-up
+decreases-up l = count_to l.next

@@ -15,4 +15,4 @@ returns c =
     let cs = class_terms c.args.design.now.classes in
     let wanted = c.in_ok-wanted.ensures ∙ (λ i. wanted_by (slice_set (replicate c.len.result false) 0 true) (declared_classes (c.as_slice.ensures i))) in
     let made = c.in_ok-flats.ensures ∙ (λ i. map (wanted_class (c.deref.ensures.value i) cs) (range_with_len 0 (sym (length-map c.args.design.now.classes class_term) i))) in
-    each_class d c.len.result c.in_ok-wanted.wanted.items _ _ wanted made c.no_class-none.ensures
+    each_class d c.len.result c.in_ok-wanted.wanted.items c.in_ok-marks.marks.items _ _ wanted c.in_ok-marks.ensures made c.no_class-none.ensures
