@@ -60,3 +60,11 @@ put_back a p i n = λ k. record { element = λ q j. same q j ((p == q) && (i == 
     same : (q j : ℕ) (b : Bool) → ((p == q) && (i == j)) ≡ b → (if b then a.element p i else (if b then n else a.element q j)) ≡ a.element q j
     same q j true e = let two = and_parts (p == q) (i == j) e in λ k. a.element (eqb-true p q two.0 k) (eqb-true i j two.1 k)
     same q j false e = refl
+
+-- the number that is there already
+pub as_it_is : (a : Reading) (p i : ℕ) → with_number a p i (a.element p i) ≡ a
+as_it_is a p i = λ k. record { element = λ q j. same q j ((p == q) && (i == j)) refl k; size = λ q. a.size q; script = λ s. a.script s }
+  where
+    same : (q j : ℕ) (b : Bool) → ((p == q) && (i == j)) ≡ b → (if b then a.element p i else a.element q j) ≡ a.element q j
+    same q j true e = let two = and_parts (p == q) (i == j) e in λ k. a.element (eqb-true p q two.0 k) (eqb-true i j two.1 k)
+    same q j false e = refl

@@ -21,7 +21,7 @@ use Rattle.svr_frame.specs.Sound.{IsProp, IsSound, SizesFit}
 use Rattle.svr_frame_laws.proofs.Answers.{scalar_one}
 use Rattle.svr_encoded.proofs.UnknownLemmas.{none_past}
 use Rattle.svr_settled.specs.Steps.{with_number, with_wanted, hold, step_with, step, steps, IsWithin}
-use Rattle.svr_settled.proofs.Placed.{put_back}
+use Rattle.svr_settled.proofs.Placed.{put_back, as_it_is}
 
 -- ---- one step
 
@@ -45,6 +45,13 @@ stays items a = either (hold items a)
     either : (c : Bool) → a ≡ (if c then a else a)
     either true = refl
     either false = refl
+
+-- the wanted number is there already
+pub unchanged : (items : List ExprTerm) (wanted a : Reading) (p i n m : ℕ) → m ≡ n → n ≡ wanted.element p i → m ≡ a.element p i → a ≡ step_with items a (with_number a p i (wanted.element p i))
+unchanged items wanted a p i n m equal same old =
+    let here : a.element p i ≡ wanted.element p i = sym old ∙ equal ∙ same in
+    let now : with_number a p i (wanted.element p i) ≡ a = ap (with_number a p i) (sym here) ∙ as_it_is a p i in
+    stays items a ∙ ap (λ (b : Reading). step_with items a b) (sym now)
 
 -- a property of both holds of the next one
 next_one : (P : Reading → Type 0) (items : List ExprTerm) (a b : Reading) → P a → (hold items b ≡ true → P b) → P (step_with items a b)

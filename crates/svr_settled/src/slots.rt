@@ -18,29 +18,55 @@ use std::alloc::Global;
 use svr_eval::Assign;
 use svr_frame::{Frame, Slot};
 use svr_typed::{NoMemory, TExpr};
-use svr_values::needed_hold;
+use svr_values::needed_fault;
 
-/// The number at a place is the wanted one where the items that are needed hold with it.
+/// Whether the items that are needed hold. They are looked at from the one on that did not hold when some did not before, and then from the front: it, or one not far behind it, is mostly the next that does not hold.
+fn hold_now(items: &[TExpr], needed: &[bool], last: &mut usize, a: &Assign) -> bool
+    requires typed { All (λ e. IsTyped (expr_term e)) items.now }
+    requires readable { All (λ e. CanRead (reading_of a.now) 0 (expr_term e)) items.now }
+    ensures { result ≡ hold (needed_of (map expr_term items.now) needed.now) (reading_of a.now) }
+{
+    let middle = (*last).min(items.len()).min(needed.len());
+    let (front, back) = items.split_at(middle);
+    let (marks, others) = needed.split_at(middle);
+    if let Some(place) = needed_fault(back, others, a) {
+        *last = middle + place;
+        return false;
+    }
+    match needed_fault(front, marks, a) {
+        Some(place) => {
+            *last = place;
+            false
+        }
+        None => true,
+    }
+}
+
+/// The number at a place, an element of a property, is the wanted one where the items that are needed hold with it. Nothing is asked where it is the wanted one already.
 fn try_number(
     alloc: Global,
     a: &mut Assign,
     items: &[TExpr],
     needed: &[bool],
+    last: &mut usize,
     wanted: &Assign,
-    prop: u32,
-    index: u32,
+    at: (u32, u32),
 ) -> Result<(), NoMemory>
-    requires within { index < length (slice_index_or a.old.values prop []) }
+    requires within { at.1 < length (slice_index_or a.old.values at.0 []) }
     requires typed { All (λ e. IsTyped (expr_term e)) items.now }
-    requires readable { All (λ e. CanRead (with_number (reading_of a.old) prop index ((reading_of wanted.now).element prop index)) 0 (expr_term e)) items.now }
-    ensures reads { OnOk result (reading_of a.new ≡ step_with (needed_of (map expr_term items.now) needed.now) (reading_of a.old) (with_number (reading_of a.old) prop index ((reading_of wanted.now).element prop index))) }
+    requires readable { All (λ e. CanRead (with_number (reading_of a.old) at.0 at.1 ((reading_of wanted.now).element at.0 at.1)) 0 (expr_term e)) items.now }
+    ensures reads { OnOk result (reading_of a.new ≡ step_with (needed_of (map expr_term items.now) needed.now) (reading_of a.old) (with_number (reading_of a.old) at.0 at.1 ((reading_of wanted.now).element at.0 at.1))) }
     ensures long { OnOk result ((p : ℕ) → length (slice_index_or a.new.values p []) ≡ length (slice_index_or a.old.values p [])) }
 {
+    let (prop, index) = at;
     let place = u64::from(index);
     let number = wanted.element(prop, place);
     let before = a.element(prop, place);
+    if before == number {
+        return Ok(());
+    }
     put(alloc, a, prop, index, number)?;
-    if needed_hold(items, needed, a) {
+    if hold_now(items, needed, last, a) {
         return Ok(());
     }
     put(alloc, a, prop, index, before)?;
@@ -53,6 +79,7 @@ fn settle_slot(
     a: &mut Assign,
     items: &[TExpr],
     needed: &[bool],
+    last: &mut usize,
     wanted: &Assign,
     slot: Slot,
 ) -> Result<(), NoMemory>
@@ -63,8 +90,10 @@ fn settle_slot(
     ensures long { OnOk result ((p : ℕ) → length (slice_index_or a.new.values p []) ≡ length (slice_index_or a.old.values p [])) }
 {
     match slot {
-        Slot::Scalar(prop) => try_number(alloc, a, items, needed, wanted, prop, 0),
-        Slot::Element(prop, index) => try_number(alloc, a, items, needed, wanted, prop, index),
+        Slot::Scalar(prop) => try_number(alloc, a, items, needed, last, wanted, (prop, 0)),
+        Slot::Element(prop, index) => {
+            try_number(alloc, a, items, needed, last, wanted, (prop, index))
+        }
         Slot::Size(_) => Ok(()),
     }
 }
@@ -94,8 +123,9 @@ pub fn settle(
     ensures meets { IfOk result (λ a. hold (needed_of (map expr_term items.now) needed.now) (reading_of a) ≡ true) }
 {
     let mut a = found;
+    let mut last = 0;
     for at in 0..slots.len() {
-        settle_slot(alloc, &mut a, items, needed, wanted, slots[at])?;
+        settle_slot(alloc, &mut a, items, needed, &mut last, wanted, slots[at])?;
     }
     Ok(a)
 }

@@ -8,6 +8,6 @@ mod numbers;
 mod wishes;
 
 pub use hold::all_hold;
-pub use needed::needed_hold;
+pub use needed::needed_fault;
 pub use numbers::random_numbers;
 pub use wishes::{wanted, wanted_in};

@@ -1,6 +1,6 @@
 // Whether values meet the items of a call that are needed.
 
-ghost use Rattle.std.specs.Prelude.{◌≡◌, false, not, ◌||◌, [], map, slice_index_or};
+ghost use Rattle.std.specs.Prelude.{◌≡◌, ◌<◌, true, false, not, ◌||◌, [], map, length, slice_index_or, MatchOption, IfSome};
 ghost use Rattle.std.specs.List.{All, list_all};
 ghost use Rattle.svr_typed.specs.ExprTerm.{expr_term};
 ghost use Rattle.svr_eval.specs.Reading.{reading_of};
@@ -31,16 +31,19 @@ fn holds_if_needed(item: &TExpr, needed: bool, a: &Assign) -> bool
     !needed || holds(item, a)
 }
 
-/// Whether each closed expression that is marked as needed has a value that is not 0.
-pub fn needed_hold(items: &[TExpr], needed: &[bool], a: &Assign) -> bool
+/// The first place at which a closed expression is marked as needed and has the value 0, none where there is none.
+pub fn needed_fault(items: &[TExpr], needed: &[bool], a: &Assign) -> Option<usize>
     requires typed { All (λ e. IsTyped (expr_term e)) items.now }
     requires reads { All (λ e. CanRead (reading_of a.now) 0 (expr_term e)) items.now }
-    ensures { result ≡ list_all (λ e. is_set (alone (reading_of a.now) [] e)) (needed_of (map expr_term items.now) needed.now) }
+    ensures hold { MatchOption result
+        (list_all (λ e. is_set (alone (reading_of a.now) [] e)) (needed_of (map expr_term items.now) needed.now) ≡ true)
+        (λ _. list_all (λ e. is_set (alone (reading_of a.now) [] e)) (needed_of (map expr_term items.now) needed.now) ≡ false) }
+    ensures within { IfSome result (λ at. at < length items.now) }
 {
     for (at, item) in items.iter().enumerate() {
         if !holds_if_needed(item, is_needed(needed, at), a) {
-            return false;
+            return Some(at);
         }
     }
-    true
+    None
 }
