@@ -3,6 +3,8 @@ pub mod Spelled
 pub mod Answered
 pub mod Lists
 pub mod Tries
+pub mod Spellings
+pub mod Denials
 pub mod Steps
 pub mod Fitting
 pub mod Ended

@@ -1,5 +1,5 @@
 -- Questions of the phase of cyclic values: over what they are asked, and what they find
-use Rattle.std.specs.Prelude.{◌≡◌, ℕ, ◌+◌, ◌<◌, ◌≤◌, ◌^◌, List, ◌∷◌, ◌++◌, Some, map, length}
+use Rattle.std.specs.Prelude.{◌≡◌, ℕ, ◌+◌, ◌<◌, ◌≤◌, ◌^◌, List, [], ◌∷◌, ◌++◌, Some, map, length}
 use Rattle.std.specs.List.{All}
 use Rattle.svr_chain.specs.declared.clause.Lit.{Lit}
 use Rattle.svr_chain.specs.declared.clause.Cnf.{Cnf}
@@ -17,7 +17,7 @@ use Rattle.svr_encoded.specs.declared.encoded.Encoded.{Encoded}
 use Rattle.svr_phase.specs.declared.proof.Proof.{Proof}
 use Rattle.svr_phase.specs.declared.proof.ProofReason.{ProofReason}
 use Rattle.svr_phase.specs.Spent.{IsRefutation, SpendsBudget, EncodesItems, bit_count}
-use Rattle.svr_phase.specs.Proof.{fixed_lits, hard_roots}
+use Rattle.svr_phase.specs.Proof.{spelling, fixed_lits, hard_roots}
 use Rattle.svr_phase.specs.Ends.{cyclic_props}
 use Rattle.svr_cyclic.specs.declared.ask.Asking.{Asking}
 use Rattle.svr_cyclic.specs.declared.ask.Sought.{Sought}
@@ -68,10 +68,15 @@ pub record IsNext (f : FrameTerm) (chosen : List (ℕ × ℕ)) (prop : ℕ) : Ty
   pub order : map (λ (x : ℕ × ℕ). x.0) chosen ++ prop ∷ others ≡ cyclic_props f
   pub below : All (λ (x : ℕ × ℕ). x.1 < 2 ^ width_of f x.0) chosen
 
--- a value of the next property, with the literals of the chosen values
+-- the bits of a property: they spell each of its values
+abbrev pub IsRowOf : Encoded → ℕ → List Lit → Type 0
+IsRowOf e prop row = (v : ℕ) → fixed_lits e ((prop, v) ∷ []) ≡ spelling row v
+
+-- a value of the next property, with the literals of the chosen values and the bits of the property
 pub record IsSought (a : Asking) (s : Sought) : Type 0 where
   pub next : IsNext (frame_term a.frame.now) s.chosen.now s.prop
   pub lits : s.literals.now ≡ fixed_lits a.layout.now s.chosen.now
+  pub row : IsRowOf a.layout.now s.prop s.row.now
 
 -- ---- what is found
 

@@ -3,9 +3,10 @@
 ghost use Rattle.std.specs.Prelude.{◌≡◌, ◌<◌, ◌^◌, [], ◌∷◌, ◌++◌, IfOk};
 ghost use Rattle.svr_frame.specs.Frame.{frame_term, width_of};
 ghost use Rattle.svr_phase.specs.Proof.{fixed_lits};
-ghost use Rattle.svr_cyclic.specs.Questions.{CanAsk, IsSought, IsTried, over, tried_of};
+ghost use Rattle.svr_cyclic.specs.Questions.{CanAsk, IsRowOf, IsSought, IsTried, over, tried_of};
 
 use crate::memory::NoMemory;
+use crate::row::spelled;
 use sqlite_items::Items;
 use std::alloc::Global;
 use svr_chain::{Lit, Refutation};
@@ -13,7 +14,6 @@ use svr_encoded::Encoded;
 use svr_frame::Frame;
 use svr_phase::{Proof, ProofReason};
 use svr_query::{Answer, Solver};
-use svr_question::fixed_literals;
 
 /// What all questions of the phase are asked with: the frame, an encoding apart from its clauses, which the solver has, the values that the search tries first, and the budget in steps.
 #[derive(Clone, Copy)]
@@ -24,12 +24,13 @@ pub(crate) struct Asking<'a> {
     pub budget: u64,
 }
 
-/// What is looked for: a value of a property behind the chosen ones, with the literals of these.
+/// What is looked for: a value of a property behind the chosen ones, with the literals of these, and the bits of the property.
 #[derive(Clone, Copy)]
 pub(crate) struct Sought<'a> {
     pub prop: u32,
     pub chosen: &'a [(u32, u64)],
     pub literals: &'a [Lit],
+    pub row: &'a [Lit],
 }
 
 /// What a question for a value came to.
@@ -44,17 +45,17 @@ pub(crate) enum Tried {
 }
 
 /// The literals that a question assumes: those of the chosen values, of the value that is tried, and of the hard items.
-fn assumed(
+pub(crate) fn assumed(
     alloc: Global,
     layout: &Encoded,
     sought: &Sought<'_>,
     value: u64,
 ) -> Result<Vec<Lit>, NoMemory>
-    requires { sought.now.literals.now ≡ fixed_lits layout.now sought.now.chosen.now }
+    requires lits { sought.now.literals.now ≡ fixed_lits layout.now sought.now.chosen.now }
+    requires row { IsRowOf layout.now sought.now.prop sought.now.row.now }
     ensures { IfOk result (λ ls. ls.items ≡ fixed_lits layout.now (sought.now.chosen.now ++ (sought.now.prop, value) ∷ []) ++ layout.now.roots.items) }
 {
-    let tried = [(sought.prop, value)];
-    let own = fixed_literals(alloc, layout, &tried)?;
+    let own = spelled(alloc, sought.row, value)?;
     let own_lits = own.as_slice();
     let roots = layout.roots.as_slice();
     let mut all = Vec::from_slice(alloc, sought.literals)?;

@@ -9,6 +9,8 @@ mod look;
 mod memory;
 mod phase;
 mod property;
+mod row;
+mod single;
 mod solving;
 mod used;
 mod values;

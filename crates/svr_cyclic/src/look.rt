@@ -1,16 +1,22 @@
 // The first of some values that fits.
 
-ghost use Rattle.std.specs.Prelude.{◌≡◌, ◌<◌, ◌^◌, IfOk};
+ghost use Rattle.std.specs.Prelude.{◌≡◌, ◌<◌, ◌^◌, [], ◌∷◌, ◌++◌, IfOk};
 ghost use Rattle.std.specs.List.{All};
+ghost use Rattle.svr_query.specs.declared.solver.Answer.TheVariants as answer;
+ghost use Rattle.svr_phase.specs.Proof.{fixed_lits};
 ghost use Rattle.svr_frame.specs.Frame.{frame_term, width_of};
-ghost use Rattle.svr_cyclic.specs.Questions.{CanAsk, IsSought, over};
+ghost use Rattle.svr_cyclic.specs.Questions.{CanAsk, IsRowOf, IsSought, IsTried, over, tried_of};
+ghost use Rattle.svr_cyclic.specs.Denials.{AreDenied};
 ghost use Rattle.svr_cyclic.specs.Values.{IsLooked, reason_of};
 
-use crate::ask::{Asking, Sought, Tried, try_value};
+use crate::ask::{Asking, Sought, Tried, assumed, try_value};
 use crate::memory::NoMemory;
+use crate::row::spelled;
+use crate::single::{Known, ask_each, copied, denied_among};
 use sqlite_items::Items;
 use std::alloc::Global;
 use svr_chain::Refutation;
+use svr_encoded::Encoded;
 use svr_phase::{Proof, ProofReason};
 use svr_query::Solver;
 
@@ -42,6 +48,69 @@ fn reason(among: Among, prop: u32, value: u64) -> ProofReason
     }
 }
 
+/// Refuses a value by the refutation of one of its literals.
+fn refused(
+    alloc: Global,
+    layout: &Encoded,
+    sought: &Sought<'_>,
+    value: u64,
+    refutation: &Refutation,
+    reason: ProofReason,
+) -> Result<Tried, NoMemory>
+    requires lits { sought.now.literals.now ≡ fixed_lits layout.now sought.now.chosen.now }
+    requires row { IsRowOf layout.now sought.now.prop sought.now.row.now }
+    ensures { IfOk result (λ t. t ≡ tried_of (answer.Refuted refutation.now) (fixed_lits layout.now (sought.now.chosen.now ++ (sought.now.prop, value) ∷ []) ++ layout.now.roots.items) reason) }
+{
+    let assume = assumed(alloc, layout, sought, value)?;
+    let refutation = copied(alloc, refutation)?;
+    Ok(Tried::Refused(Proof {
+        encoding: 0,
+        assume: Items::from_vec(assume),
+        refutation,
+        reason,
+    }))
+}
+
+/// Whether no assignment has the value.
+fn is_refused(tried: &Tried) -> bool {
+    match tried {
+        Tried::Refused(_) => true,
+        Tried::Fits | Tried::Spent { .. } => false,
+    }
+}
+
+/// Tries a value. No question is asked where one of its literals is denied, and where the value is refused its literals are asked for one by one.
+fn try_with(
+    alloc: Global,
+    asking: &Asking<'_>,
+    solver: &mut Solver,
+    sought: &Sought<'_>,
+    known: &mut Known,
+    value: u64,
+    reason: ProofReason,
+) -> Result<Tried, NoMemory>
+    requires can { CanAsk asking.now solver.old }
+    requires sought { IsSought asking.now sought.now }
+    requires below { value < 2 ^ width_of (frame_term asking.now.frame.now) sought.now.prop }
+    requires denied { AreDenied asking.now sought.now solver.old.clauses known.old.denied.items }
+    ensures can { CanAsk asking.now solver.new }
+    ensures same { solver.new.clauses ≡ solver.old.clauses }
+    ensures denied { AreDenied asking.now sought.now solver.old.clauses known.new.denied.items }
+    ensures tried { IfOk result (IsTried (over asking.now solver.old.clauses) (sought.now.chosen.now ++ (sought.now.prop, value) ∷ []) reason) }
+{
+    let own = spelled(alloc, sought.row, value)?;
+    let lits = own.as_slice();
+    if let Some(refutation) = denied_among(known.denied.as_slice(), lits) {
+        return refused(alloc, asking.layout, sought, value, refutation, reason);
+    }
+    let tried = try_value(alloc, asking, solver, sought, value, reason)?;
+    if !is_refused(&tried) {
+        return Ok(tried);
+    }
+    ask_each(alloc, asking, solver, sought, lits, known)?;
+    Ok(tried)
+}
+
 /// Tries the values in their order, up to the first that fits.
 pub(crate) fn first_fitting(
     alloc: Global,
@@ -59,9 +128,10 @@ pub(crate) fn first_fitting(
     ensures looked { IfOk result (IsLooked (over asking.now solver.old.clauses) sought.now.chosen.now sought.now.prop (reason_of among sought.now.prop) values.now) }
 {
     let mut proofs = Items::new(alloc);
+    let mut known = Known::new(alloc);
     for value in values {
         let why = reason(among, sought.prop, *value);
-        let tried = try_value(alloc, asking, solver, sought, *value, why)?;
+        let tried = try_with(alloc, asking, solver, sought, &mut known, *value, why)?;
         match tried {
             Tried::Fits => return Ok(Looked::Found(*value)),
             Tried::Refused(proof) => proofs.push(proof)?,

@@ -10,6 +10,7 @@ ghost use Rattle.svr_cyclic.specs.Values.{EndsBehind, IsValueEnd};
 use crate::ask::{Asking, Sought};
 use crate::look::{Among, Looked, first_fitting};
 use crate::memory::NoMemory;
+use crate::row::row_of;
 use crate::values::trials_of;
 use sqlite_items::Items;
 use std::alloc::Global;
@@ -72,11 +73,14 @@ pub(crate) fn choose_value(
     ensures end { IfOk result (IsValueEnd (over asking.now solver.old.clauses) chosen.now prop (turned word (unused used.now (domain_of (frame_term asking.now.frame.now) prop))) (turned word (domain_of (frame_term asking.now.frame.now) prop))) }
 {
     let lits = fixed_literals(alloc, asking.layout, chosen)?;
+    let bits = row_of(alloc, asking.layout, prop)?;
     let literals = lits.as_slice();
+    let row = bits.as_slice();
     let sought = Sought {
         prop,
         chosen,
         literals,
+        row,
     };
     let tries = trials_of(alloc, asking.frame, prop, used, word)?;
     let left = tries.unused.as_slice();

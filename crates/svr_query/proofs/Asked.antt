@@ -43,9 +43,6 @@ asked-grown assume ks old new a g = decided-grown (λ es e. (has assume e.lit �
 pub asked-take : (assume : List Lit) (n : ℕ) (es : List Entry) → n ≤ length es → Each (IsAsked assume) es → Each (IsAsked assume) (take n es)
 asked-take assume n es o a = each-take (IsAsked assume) n es o a
 
-pub asked-start : (assume : List Lit) (s : SearchView) → IsSearch s → s.ends ≡ [] → Each (IsAsked assume) s.entries
-asked-start assume s k z i e h n = absurd (none_at_0 s k z i e h n)
-
 pub decided-has : (assume : List Lit) (es : List Entry) → Each (IsAsked assume) es → ((i : ℕ) → i < length es → are_true (take i es) assume ≡ true → ⊥)
     → (l : Lit) → is_decided es l ≡ true → has assume l ≡ true
 decided-has assume es a f l h =

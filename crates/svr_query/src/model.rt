@@ -41,10 +41,13 @@ fn are_lits_true(values: &[bool], lits: &[Lit]) -> bool
     lits.iter().all(|lit| lit_value(values, *lit))
 }
 
-/// Whether each clause and each assumed literal is true.
+/// Whether each clause and each assumed literal is true. The assumed literals are looked at first, since they are few beside the clauses.
 pub fn is_model(clauses: &[Clause], assume: &[Lit], values: &[bool]) -> bool
     ensures { result ≡ (list_all (clause_value (valuation_of values.now)) clauses.now
         && list_all (lit_value (valuation_of values.now)) assume.now) }
 {
-    are_clauses_true(values, clauses) && are_lits_true(values, assume)
+    if !are_lits_true(values, assume) {
+        return false;
+    }
+    are_clauses_true(values, clauses)
 }

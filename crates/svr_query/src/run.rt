@@ -4,6 +4,7 @@ ghost use Rattle.std.specs.Prelude.{◌≡◌, ◌+◌, ◌≤◌, ◌<◌, ◌�
 ghost use Rattle.svr_chain.specs.declared.clause.Lit.{Lit};
 ghost use Rattle.svr_chain.specs.Clauses.{AreWithin, IsWithin, has, is_tautology};
 ghost use Rattle.svr_trail.specs.Trail.{Each, IsClosed, sign_at, value_in};
+ghost use Rattle.svr_cdcl.specs.Search.{at_level};
 ghost use Rattle.svr_query.specs.Found.{AreSeen, IsAssumed, IsFound};
 ghost use Rattle.svr_query.specs.Logged.{IsAsked, IsLogged, are_true};
 
@@ -144,6 +145,53 @@ pub fn restart(search: &mut Search)
     search.backjump(0);
 }
 
+/// The place behind the first such literal from a place on, if it is among those.
+fn place_behind(assume: &[Lit], from: usize, lit: Lit) -> Option<usize>
+    ensures { IfSome result (λ _. has assume.now lit ≡ true) }
+{
+    let mut place = from;
+    'places: while place < assume.len() {
+        let asked = assume[place];
+        place += 1;
+        if asked == lit {
+            return Some(place);
+        }
+    }
+    None
+}
+
+/// How many of the first levels were begun with assumed literals, in the order of these.
+fn asked_levels(search: &Search, assume: &[Lit]) -> usize
+    ensures within { result ≤ length search.now.ends }
+    ensures asked { Each (IsAsked assume.now) (at_level search.now result) }
+{
+    // For the proof: what is known of every search.
+    let _ = search.level();
+    let mut levels = 0;
+    let mut behind = 0;
+    for entry in search.entries() {
+        if entry.reason.is_some() {
+            continue;
+        }
+        let Some(place) = place_behind(assume, behind, entry.lit) else {
+            return levels;
+        };
+        behind = place;
+        levels += 1;
+    }
+    levels
+}
+
+/// Takes back the decisions from the first one on that was not assumed. What two questions assume in front stays set from one to the next.
+fn keep_asked(search: &mut Search, assume: &[Lit])
+    ensures vars { search.new.vars ≡ search.old.vars }
+    ensures clauses { search.new.clauses ≡ search.old.clauses }
+    ensures asked { Each (IsAsked assume.now) search.new.entries }
+{
+    let levels = asked_levels(search, assume);
+    search.backjump(levels);
+}
+
 /// Begins a level with this literal true.
 pub fn decide(search: &mut Search, lit: Lit)
     requires within { IsWithin search.old.vars lit }
@@ -204,7 +252,7 @@ pub fn run(
         lits: 0,
         entries: 0,
     };
-    restart(search);
+    keep_asked(search, assume);
     let _ = search.level();
     let mut made = 0;
     'search: while made < budget {

@@ -11,5 +11,5 @@ returns c =
     let s = c.args.sought.now in
     c.in_ok-extend_from_slice-2.ensures.items
     ∙ (λ k. c.in_ok-extend_from_slice.ensures.items k ++ c.as_slice-roots.ensures.value k)
-    ∙ (λ k. ((c.in_ok-all.ensures.items ∙ c.requires) k ++ (c.as_slice-own_lits.ensures.value ∙ c.in_ok-own.ensures) k) ++ layout.roots.items)
+    ∙ (λ k. ((c.in_ok-all.ensures.items ∙ c.requires.lits) k ++ (c.as_slice-own_lits.ensures.value ∙ c.in_ok-own.ensures ∙ sym (c.requires.row c.args.value)) k) ++ layout.roots.items)
     ∙ ap (λ (ls : List Lit). ls ++ layout.roots.items) (sym (flat_map-append (lits_at layout.slots.items (rows layout.bits.items)) s.chosen.now ((s.prop, c.args.value) ∷ [])))

@@ -8,8 +8,11 @@ use Rattle.svr_cyclic.proofs.Answered.{asked_fit, tried, can_still}
 use Rattle.svr_cyclic.proofs.Tries.{next_fixed}
 use Rattle.svr_cyclic.proofs.ask.try_value.Goals as goal
 
-pub assumed-requires : goal.assumed-requires
-assumed-requires c = c.requires.sought.lits
+pub assumed-requires-clause-lits : goal.assumed-requires-clause-lits
+assumed-requires-clause-lits c = c.requires.sought.lits
+
+pub assumed-requires-clause-row : goal.assumed-requires-clause-row
+assumed-requires-clause-row c = c.requires.sought.row
 
 pub ask-requires-clause-within : goal.ask-requires-clause-within
 ask-requires-clause-within c =

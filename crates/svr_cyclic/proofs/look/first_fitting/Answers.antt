@@ -7,9 +7,11 @@ use Rattle.svr_frame.specs.Frame.{frame_term, width_of}
 use Rattle.svr_phase.specs.declared.proof.Proof.{Proof}
 use Rattle.svr_phase.specs.declared.proof.ProofReason.{ProofReason}
 use Rattle.svr_cyclic.specs.declared.ask.Tried.{Tried}
+use Rattle.svr_cyclic.specs.declared.single.Denied.{Denied}
 use Rattle.svr_cyclic.specs.declared.ask.Tried.TheVariants as told
 use Rattle.svr_cyclic.specs.Questions.{IsTried, over}
 use Rattle.svr_cyclic.specs.Values.{CannotTake, AreRefuted, reason_of}
+use Rattle.svr_cyclic.specs.Denials.{AreDenied, IsDenied}
 use Rattle.svr_cyclic.proofs.Tries.{refuted_more, none_more, found_at, trying_at}
 use Rattle.svr_cyclic.proofs.look.first_fitting.Goals as goal
 
@@ -21,23 +23,29 @@ loop-value-init c =
       same = refl;
       none = All-nil (CannotTake (frame_term c.args.asking.now.frame.now) s.chosen.now s.prop);
       proved = subst (λ (ps : List Proof). AreRefuted (over c.args.asking.now c.args.solver.now.clauses) s.chosen.now s.prop (reason_of c.args.among s.prop) [] ps) (sym c.new-proofs.ensures) tt;
+      denied = subst (λ (ds : List Denied). AreDenied c.args.asking.now s c.args.solver.now.clauses ds) (sym c.new-known.ensures) (All-nil (IsDenied c.args.solver.now.clauses s.literals.now c.args.asking.now.layout.now.roots.items));
     }
 
-pub try_value-requires-clause-can : goal.try_value-requires-clause-can
-try_value-requires-clause-can c = c.loop-value.invariant.can
+pub try_with-requires-clause-can : goal.try_with-requires-clause-can
+try_with-requires-clause-can c = c.loop-value.invariant.can
 
-pub try_value-requires-clause-sought : goal.try_value-requires-clause-sought
-try_value-requires-clause-sought c = c.requires.sought
+pub try_with-requires-clause-sought : goal.try_with-requires-clause-sought
+try_with-requires-clause-sought c = c.requires.sought
 
-pub try_value-requires-clause-below : goal.try_value-requires-clause-below
-try_value-requires-clause-below c =
+pub try_with-requires-clause-below : goal.try_with-requires-clause-below
+try_with-requires-clause-below c =
     All-get_or (λ v. v < 2 ^ width_of (frame_term c.args.asking.now.frame.now) c.args.sought.now.prop) c.args.values.now c.loop-value.value-index 0 c.loop-value-test.true c.requires.below
 
+pub try_with-requires-clause-denied : goal.try_with-requires-clause-denied
+try_with-requires-clause-denied c =
+    let i = c.loop-value.invariant in
+    subst (λ (ks : List (List Lit)). AreDenied c.args.asking.now c.args.sought.now ks c.loop-value.known.denied.items) (sym i.same) i.denied
+
 pub returns-in_err-tried-clause-can : goal.returns-in_err-tried-clause-can
-returns-in_err-tried-clause-can c = c.try_value.ensures.can
+returns-in_err-tried-clause-can c = c.try_with.ensures.can
 
 pub returns-in_err-tried-clause-same : goal.returns-in_err-tried-clause-same
-returns-in_err-tried-clause-same c = c.try_value.ensures.same ∙ c.loop-value.invariant.same
+returns-in_err-tried-clause-same c = c.try_with.ensures.same ∙ c.loop-value.invariant.same
 
 pub returns-in-Fits-clause-can : goal.returns-in-Fits-clause-can
 returns-in-Fits-clause-can c = c.in_ok-tried.ensures.can
@@ -83,6 +91,7 @@ loop-value-preserved c =
       can = c.in_ok-tried.ensures.can;
       same = c.in_ok-tried.ensures.same ∙ inv.same;
       none = none_more (over a c.args.solver.now.clauses) s.chosen.now s.prop (reason_of c.args.among s.prop) vs i c.loop-value-test.true inv.none refused.0;
+      denied = subst (λ (ks : List (List Lit)). AreDenied a s ks c.try_with.new.known.denied.items) inv.same c.in_ok-tried.ensures.denied;
       proved = refuted_more (over a c.args.solver.now.clauses) s.chosen.now s.prop (reason_of c.args.among s.prop) vs i c.loop-value.proofs _ c.in-Refused.proof c.loop-value-test.true c.in_ok-push-in-Refused.ensures.ok inv.proved refused.1;
     }
 

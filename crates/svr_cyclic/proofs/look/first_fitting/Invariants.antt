@@ -3,6 +3,7 @@ use Rattle.std.specs.List.{All}
 use Rattle.svr_frame.specs.Frame.{frame_term}
 use Rattle.svr_cyclic.specs.Questions.{CanAsk, over}
 use Rattle.svr_cyclic.specs.Values.{CannotTake, AreRefuted, reason_of}
+use Rattle.svr_cyclic.specs.Denials.{AreDenied}
 use Rattle.svr_cyclic.proofs.look.first_fitting.Given as goal
 
 abbrev pub invariant-loop-value : goal.invariant-loop-value
@@ -11,4 +12,5 @@ invariant-loop-value l = record {
   same : l.solver.clauses ≡ l.initial.solver.clauses;
   none : All (CannotTake (frame_term l.asking.frame.now) l.sought.chosen.now l.sought.prop) (take l.value-index l.values);
   proved : AreRefuted (over l.asking l.initial.solver.clauses) l.sought.chosen.now l.sought.prop (reason_of l.among l.sought.prop) (take l.value-index l.values) l.proofs;
+  denied : AreDenied l.asking l.sought l.initial.solver.clauses l.known.denied.items;
 }

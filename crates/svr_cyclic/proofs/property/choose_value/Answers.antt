@@ -8,7 +8,7 @@ use Rattle.svr_phase.proofs.Fresh.{all_turned}
 use Rattle.svr_cyclic.specs.declared.look.Looked.{Looked}
 use Rattle.svr_cyclic.specs.declared.look.Looked.TheVariants as looked
 use Rattle.svr_cyclic.specs.declared.look.Among.TheVariants as among
-use Rattle.svr_cyclic.specs.Questions.{over}
+use Rattle.svr_cyclic.specs.Questions.{IsRowOf, over}
 use Rattle.svr_cyclic.specs.Values.{IsLooked, IsValueEnd, reason_of}
 use Rattle.svr_cyclic.proofs.Lists.{width_few, domain_below, unused_all}
 use Rattle.svr_cyclic.proofs.property.choose_value.Goals as goal
@@ -17,7 +17,12 @@ pub trials_of-requires : goal.trials_of-requires
 trials_of-requires c = width_few (frame_term c.args.asking.now.frame.now) c.requires.can.sound c.args.prop
 
 pub first_fitting-requires-clause-sought : goal.first_fitting-requires-clause-sought
-first_fitting-requires-clause-sought c = record { next = c.requires.next; lits = c.as_slice-literals.ensures.value ∙ c.in_ok-lits.ensures }
+first_fitting-requires-clause-sought c =
+    record {
+      next = c.requires.next;
+      lits = c.as_slice-literals.ensures.value ∙ c.in_ok-lits.ensures;
+      row = subst (λ (ls : List Lit). IsRowOf c.args.asking.now.layout.now c.args.prop ls) (sym c.as_slice-row.ensures.value) c.in_ok-bits.ensures;
+    }
 
 pub first_fitting-requires-clause-below : goal.first_fitting-requires-clause-below
 first_fitting-requires-clause-below c =
@@ -27,7 +32,12 @@ first_fitting-requires-clause-below c =
     (all_turned fits c.args.word (unused c.args.used.now (domain_of f c.args.prop)) (unused_all fits c.args.used.now (domain_of f c.args.prop) (domain_below f c.requires.can.sound c.args.prop)))
 
 pub begin_cycle-requires-clause-sought : goal.begin_cycle-requires-clause-sought
-begin_cycle-requires-clause-sought c = record { next = c.requires.next; lits = c.as_slice-literals.ensures.value ∙ c.in_ok-lits.ensures }
+begin_cycle-requires-clause-sought c =
+    record {
+      next = c.requires.next;
+      lits = c.as_slice-literals.ensures.value ∙ c.in_ok-lits.ensures;
+      row = subst (λ (ls : List Lit). IsRowOf c.args.asking.now.layout.now c.args.prop ls) (sym c.as_slice-row.ensures.value) c.in_ok-bits.ensures;
+    }
 
 pub begin_cycle-requires-clause-below : goal.begin_cycle-requires-clause-below
 begin_cycle-requires-clause-below c =
