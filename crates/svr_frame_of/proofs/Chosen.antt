@@ -1,12 +1,16 @@
 -- Whether a call chooses a size, by the leaves of a frame that marks it.
 use Rattle.std.proofs.Common.{◌≡◌, ◌<◌, ℕ, Bool, true, false, ◌&&◌, refl, sym, ◌∙◌, ap, List, [], length, map}
 use Rattle.std.specs.List.{list_any, range_with_len}
+use Rattle.std.proofs.lemmas.Bool.Decides.{Decides-eqb}
+use Rattle.std.proofs.lemmas.Slice.Eq.{slice_eq-Decides}
 use Rattle.svr_typed.specs.ItemTerm.{ItemTerms}
+use Rattle.svr_eval.specs.declared.assign.Assign.{Assign}
 use Rattle.svr_frame.specs.Frame.{FrameTerm, is_random, is_dynamic, props_of, state_sizes}
 use Rattle.svr_frame.specs.Reads.{mentions_size}
 use Rattle.svr_frame.specs.Phases.{shape_at, active_at}
 use Rattle.svr_frame.specs.Making.{can_free, is_free}
 use Rattle.svr_frame_of.specs.Callable.{with_free}
+use Rattle.svr_frame_of.specs.Choosing.{in_state, as_chosen, HasChosen, are_same}
 use Rattle.svr_frame_of.specs.Freeing.{mark, all_leaves}
 use Rattle.svr_frame_of.proofs.Freed.{freed}
 use Rattle.svr_frame_of.proofs.Steps.{marked_at}
@@ -33,3 +37,15 @@ pub with_choice : (f g w : FrameTerm) (n : ℕ) (free : List Bool) → w ≡ g �
     → with_free w free ≡ with_free f (map (is_free f) (props_of f))
 with_choice f g w n free is same chosen count =
     ap (λ (x : FrameTerm). with_free x free) is ∙ ap (λ (x : FrameTerm). with_free x free) same ∙ ap (with_free f) (chosen ∙ ap (λ (k : ℕ). map (is_free f) (range_with_len 0 k)) count)
+
+-- ---- another state
+
+-- which sizes are chosen depends on no more of the state than the sizes in it
+in_sizes : (f : FrameTerm) (s : Assign) → f.state.sizes ≡ s.sizes → map (is_free f) (props_of f) ≡ map (is_free (in_state f s)) (props_of f)
+in_sizes f s e = ap (λ (ns : List ℕ). map (is_free (in_state f (record s { sizes = ns }))) (props_of f)) e
+
+-- at the same sizes the same ones are chosen
+pub kept_choice : (f g : FrameTerm) (s : Assign) → HasChosen f → are_same f.state.sizes s.sizes ≡ true → g ≡ in_state f s → g ≡ as_chosen (in_state f s)
+kept_choice f g s chosen same is =
+    let e : f.state.sizes ≡ s.sizes = (slice_eq-Decides Decides-eqb f.state.sizes s.sizes (are_same f.state.sizes s.sizes) refl).0 same in
+    is ∙ ap (λ (free : List Bool). with_free (in_state f s) free) (chosen ∙ in_sizes f s e)

@@ -8,6 +8,7 @@ ghost use Rattle.svr_frame.specs.Frame.{frame_term, is_random, is_dynamic, is_dy
 ghost use Rattle.svr_frame.specs.Making as spec;
 ghost use Rattle.svr_frame_of.specs.Freeing.{mark};
 ghost use Rattle.svr_frame_of.specs.Callable.{with_free};
+ghost use Rattle.svr_frame_of.specs.Choosing.{as_chosen};
 
 use crate::held::beside;
 use crate::leaves::all_leaves;
@@ -91,4 +92,15 @@ pub(crate) fn with_free_sizes(alloc: Global, frame: Frame) -> Result<Frame, NoMe
     let (mut whole, free) = beside(marked, free)?;
     whole.free_size = free;
     Ok(whole)
+}
+
+/// The sizes that the call chooses are those that it chooses in the state of the frame.
+pub(crate) fn choose_sizes(alloc: Global, frame: &mut Frame) -> Result<(), NoMemory>
+    requires { length (frame_term frame.old).class.props ≤ PROPERTY_LIMIT }
+    ensures { OnOk result (frame_term frame.new ≡ as_chosen (frame_term frame.old)) }
+{
+    let count = frame.class.props.len() as u32;
+    let free = free_sizes(alloc, frame, count)?;
+    frame.free_size = free;
+    Ok(())
 }

@@ -5,10 +5,11 @@ use Rattle.svr_typed.specs.declared.stmt.CallStmt.{CallStmt}
 use Rattle.svr_typed.specs.declared.stmt.TStmt.{TStmt, Call, the_lemmas, fold_out-TStmt, map-TStmt}
 use Rattle.svr_typed.specs.declared.stmt.TStmt.TheOpen.{TStmt-F}
 use Rattle.svr_typed.specs.declared.stmt.TStmt.TheViews.{Repeat, outs-Repeat}
-use Rattle.svr_typed.specs.StmtTerm.{StmtTerm, make, set_var, set_prop, resize, pattern, rand_mode, constraint_mode, call, repeat, list, DesignTerm, call_term, stmt_term, stmt_step}
+use Rattle.svr_typed.specs.declared.stmt.TStmt.TheViews as views
+use Rattle.svr_typed.specs.StmtTerm.{StmtTerm, make, set_var, set_prop, resize, pattern, rand_mode, constraint_mode, call, repeat, list, DesignTerm, call_term, stmt_term, stmt_terms, stmt_step}
 use Rattle.svr_phase.specs.declared.options.Options.{Options}
 use Rattle.svr_world.specs.World.{WorldTerm}
-use Rattle.svr_script.specs.Statement.{effect, in_order, times}
+use Rattle.svr_script.specs.Statement.{effect, in_order, all_in_order, times}
 use Rattle.svr_script.specs.Run.{State, Executes}
 use Rattle.svr_effect.specs.Stands.{Stands}
 use Rattle.svr_run.specs.CanRun.{CanExecute, is_plain}
@@ -56,7 +57,7 @@ plain_executes d opts (list xs) s h = both h
 
 -- ---- calls
 
-called : (x : CallStmt) → stmt_term (Call x) ≡ call (call_term x)
+pub called : (x : CallStmt) → stmt_term (Call x) ≡ call (call_term x)
 called x = search (rules, the_lemmas)
 
 pub call_order : (x : CallStmt) → in_order (stmt_term (Call x)) ≡ call (call_term x) ∷ []
@@ -88,6 +89,12 @@ pub no_turn : (n i : ℕ) (xs : List StmtTerm) → n - i ≡ 0 → times (n - i)
 no_turn n i xs e = ap (λ (k : ℕ). times k xs) e
 
 -- ---- a list
+
+list_term : (ss : List TStmt) → stmt_term (views.List ss) ≡ list (stmt_terms ss)
+list_term ss = fold_out-TStmt StmtTerm stmt_step (views.List ss) ∙ ap layer_term (views.outs-List ss)
+
+pub list_order : (ss : List TStmt) → in_order (stmt_term (views.List ss)) ≡ all_in_order (stmt_terms ss)
+list_order ss = ap in_order (list_term ss)
 
 -- what is left of a list begins with its next item
 pub front_of : {A : Type 0} (xs : List A) (i : ℕ) (x : A) → i < length xs → x ≡ get_or xs i x → drop i xs ≡ x ∷ drop (i + 1) xs

@@ -1,5 +1,7 @@
 pub mod Written
 pub mod Pieces
 pub mod Fits
+pub mod Sampling
 pub mod Walking
 pub mod Executed
+pub mod Renewed

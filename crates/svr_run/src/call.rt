@@ -14,20 +14,25 @@ ghost use Rattle.svr_run.specs.CanRun.{AreAllowed, CanRun};
 ghost use Rattle.svr_run.specs.Telling.{Tells, TellsFront, counted, printing_of, sinks};
 ghost use Rattle.svr_run.specs.Events.{AreNamed, IsCause, IsNotTold, IsTold, end_in, event_in, names_at};
 ghost use Rattle.svr_run.specs.Fitting.{ZeroFits};
+ghost use Rattle.svr_run.specs.Watching.{watcher};
 ghost use Rattle.svr_run.specs.Reached.{Breaks, Goes, Halts, IsBefore, IsNext, Steps, state_of};
+ghost use Rattle.svr_run.specs.Repeating.{SameModes};
 
 use crate::conflict::{Contradiction, conflict_of};
 use crate::progress::{Progress, is_limit, take_answer};
 use crate::script::{Script, name_of_var};
 use crate::stop::Stop;
 use crate::tell::{Told, tell};
+use crate::watched::{Watched, sample};
 use std::alloc::Global;
 use svr_call::Outcome;
 use svr_edge::Sink;
+use svr_effect::class_of_var;
 use svr_frame::Frame;
 use svr_frame_of::make_frame;
 use svr_randomize::randomize;
 use svr_typed::CallStmt;
+use svr_world::Watch;
 
 /// What was answered is told, counted, and handed to the variable that takes it.
 fn settle<K: Sink, J: Sink>(
@@ -115,11 +120,11 @@ fn answered<K: Sink, J: Sink>(
     )
 }
 
-/// The answer of a call in its frame.
-fn answer<K: Sink, J: Sink>(
+/// The answer of a call in its frame. The watch takes its sample before the answer is told. No mode of the object is another one afterwards.
+pub(crate) fn answer<K: Sink, J: Sink, W: Watch>(
     alloc: Global,
     script: &Script<'_>,
-    progress: &mut Progress,
+    run: &mut Watched<W>,
     call: &CallStmt,
     frame: &Frame,
     out: &mut K,
@@ -127,35 +132,48 @@ fn answer<K: Sink, J: Sink>(
 ) -> Result<(), Stop>
     requires allowed { AreAllowed script.now.opts }
     requires can_run { CanRun (design_term script.now.design.now) script.now.opts }
-    requires going { progress.old.limited ≡ false }
-    requires next { IsNext (design_term script.now.design.now) script.now.opts script.now.extra (term.call (call_term call.now)) progress.old
+    requires going { run.old.progress.limited ≡ false }
+    requires next { IsNext (watcher W.content W.step W.left) (design_term script.now.design.now) script.now.opts script.now.extra (term.call (call_term call.now)) run.old
         (sinks (K.written out.old) (K.faults out.old) (J.written journal.old) (J.faults journal.old)) }
-    requires framed { frame_term frame.now ≡ frame_in (design_term script.now.design.now) progress.old.world (call_term call.now) }
+    requires framed { frame_term frame.now ≡ frame_in (design_term script.now.design.now) run.old.progress.world (call_term call.now) }
     requires sound { IsSound (frame_term frame.now) }
-    ensures steps { OnOk result (Steps (design_term script.now.design.now) script.now.opts script.now.extra (term.call (call_term call.now)) progress.old
-        (sinks (K.written out.old) (K.faults out.old) (J.written journal.old) (J.faults journal.old)) progress.new
+    ensures steps { OnOk result (Steps (watcher W.content W.step W.left) (design_term script.now.design.now) script.now.opts script.now.extra (term.call (call_term call.now)) run.old
+        (sinks (K.written out.old) (K.faults out.old) (J.written journal.old) (J.faults journal.old)) run.new
         (sinks (K.written out.new) (K.faults out.new) (J.written journal.new) (J.faults journal.new))) }
-    ensures halts { IfErr result (λ why. Halts (design_term script.now.design.now) script.now.opts script.now.extra (term.call (call_term call.now)) progress.old
+    ensures modes { OnOk result (SameModes call.now.object run.old.progress.world run.new.progress.world) }
+    ensures halts { IfErr result (λ why. Halts (watcher W.content W.step W.left) (design_term script.now.design.now) script.now.opts script.now.extra (term.call (call_term call.now)) run.old
         (sinks (K.written out.old) (K.faults out.old) (J.written journal.old) (J.faults journal.old)) why
         (sinks (K.written out.new) (K.faults out.new) (J.written journal.new) (J.faults journal.new))) }
 {
-    let number = progress.calls + 1;
+    let number = run.progress.calls + 1;
     let outcome = randomize(
         alloc,
-        &mut progress.world,
+        &mut run.progress.world,
         call.object,
         frame,
         number,
         script.opts,
     )?;
-    answered(alloc, script, progress, call, frame, &outcome, out, journal)
+    let class = class_of_var(script.design, call.object);
+    let values = run.progress.world.values(call.object);
+    sample(&mut run.watch, class, values, &outcome);
+    answered(
+        alloc,
+        script,
+        &mut run.progress,
+        call,
+        frame,
+        &outcome,
+        out,
+        journal,
+    )
 }
 
 /// Executes a call: it answers, and what it tells is written.
-pub(crate) fn execute_call<K: Sink, J: Sink>(
+pub(crate) fn execute_call<K: Sink, J: Sink, W: Watch>(
     alloc: Global,
     script: &Script<'_>,
-    progress: &mut Progress,
+    run: &mut Watched<W>,
     call: &CallStmt,
     out: &mut K,
     journal: &mut J,
@@ -163,17 +181,17 @@ pub(crate) fn execute_call<K: Sink, J: Sink>(
     requires classes { AreClasses (design_term script.now.design.now) script.now.classes.now }
     requires allowed { AreAllowed script.now.opts }
     requires can_run { CanRun (design_term script.now.design.now) script.now.opts }
-    requires going { progress.old.limited ≡ false }
-    requires before { IsBefore (design_term script.now.design.now) script.now.opts script.now.extra (term.call (call_term call.now) ∷ []) progress.old
+    requires going { run.old.progress.limited ≡ false }
+    requires before { IsBefore (watcher W.content W.step W.left) (design_term script.now.design.now) script.now.opts script.now.extra (term.call (call_term call.now) ∷ []) run.old
         (sinks (K.written out.old) (K.faults out.old) (J.written journal.old) (J.faults journal.old)) }
-    ensures goes { OnOk result (Goes (design_term script.now.design.now) script.now.opts script.now.extra (term.call (call_term call.now) ∷ []) progress.old
-        (sinks (K.written out.old) (K.faults out.old) (J.written journal.old) (J.faults journal.old)) progress.new
+    ensures goes { OnOk result (Goes (watcher W.content W.step W.left) (design_term script.now.design.now) script.now.opts script.now.extra (term.call (call_term call.now) ∷ []) run.old
+        (sinks (K.written out.old) (K.faults out.old) (J.written journal.old) (J.faults journal.old)) run.new
         (sinks (K.written out.new) (K.faults out.new) (J.written journal.new) (J.faults journal.new))) }
-    ensures breaks { IfErr result (λ why. Breaks (design_term script.now.design.now) script.now.opts script.now.extra (term.call (call_term call.now) ∷ []) progress.old
+    ensures breaks { IfErr result (λ why. Breaks (watcher W.content W.step W.left) (design_term script.now.design.now) script.now.opts script.now.extra (term.call (call_term call.now) ∷ []) run.old
         (sinks (K.written out.old) (K.faults out.old) (J.written journal.old) (J.faults journal.old)) why
         (sinks (K.written out.new) (K.faults out.new) (J.written journal.new) (J.faults journal.new))) }
 {
     let flat = script.classes.of_var(script.design, call.object);
-    let frame = make_frame(alloc, script.design, flat, &progress.world, call)?;
-    answer(alloc, script, progress, call, &frame, out, journal)
+    let frame = make_frame(alloc, script.design, flat, &run.progress.world, call)?;
+    answer(alloc, script, run, call, &frame, out, journal)
 }

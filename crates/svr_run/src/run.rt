@@ -1,13 +1,15 @@
 // A whole run.
 
-ghost use Rattle.std.specs.Prelude.{◌≡◌, IfOk, IfErr};
+ghost use Rattle.std.specs.Prelude.{◌≡◌, ◌≤◌, length, Some, IfOk, IfErr};
+ghost use Rattle.std.specs.Option.{option_map};
 ghost use Rattle.svr_typed.specs.StmtTerm.{design_term};
 ghost use Rattle.svr_effect.specs.Inherited.{AreClasses};
-ghost use Rattle.svr_script.specs.Run.{begin};
+ghost use Rattle.svr_script.specs.Run.{begin, statements};
 ghost use Rattle.svr_run.specs.CanRun.{AreAllowed, CanRun};
 ghost use Rattle.svr_run.specs.Ends as spec;
-ghost use Rattle.svr_run.specs.Ends.{Ends};
+ghost use Rattle.svr_run.specs.Ends.{Ends, Watches};
 ghost use Rattle.svr_run.specs.Telling.{no_extra, sinks};
+ghost use Rattle.svr_run.specs.Watching.{taken};
 ghost use Rattle.svr_run.specs.Reached.{Stops, no_counts, state_of};
 
 use crate::extra::Extra;
@@ -15,11 +17,13 @@ use crate::progress::{Counts, Progress};
 use crate::script::Script;
 use crate::stop::Stop;
 use crate::walk::walk_all;
+use crate::watched::{NoWatch, Watched};
 use std::alloc::Global;
 use svr_edge::Sink;
 use svr_effect::Classes;
 use svr_phase::Options;
 use svr_typed::Design;
+use svr_world::Watch;
 
 /// How a run ends: it came to its end, with so many answers; its last call met a limit; or it stopped before.
 #[derive(Clone, Copy, Debug, PartialEq, Eq)]
@@ -41,19 +45,20 @@ fn end_of(progress: &Progress) -> End
 }
 
 /// The run of a script from its beginning.
-fn walk_through<K: Sink, J: Sink>(
+fn walk_through<K: Sink, J: Sink, W: Watch>(
     alloc: Global,
     script: &Script<'_>,
-    progress: &mut Progress,
+    run: &mut Watched<W>,
     out: &mut K,
     journal: &mut J,
 ) -> Result<End, Stop>
     requires classes { AreClasses (design_term script.now.design.now) script.now.classes.now }
     requires allowed { AreAllowed script.now.opts }
     requires can_run { CanRun (design_term script.now.design.now) script.now.opts }
-    requires state { state_of progress.old ≡ begin (design_term script.now.design.now) }
-    requires counts { progress.old.counts ≡ no_counts }
-    ensures ends { IfOk result (λ end. Ends (design_term script.now.design.now) script.now.opts script.now.extra end
+    requires state { state_of run.old.progress ≡ begin (design_term script.now.design.now) }
+    requires counts { run.old.progress.counts ≡ no_counts }
+    requires room { length (statements (design_term script.now.design.now)) ≤ W.left run.old.watch }
+    ensures ends { IfOk result (λ end. Watches (taken W.step) (W.content run.old.watch) (Some (W.content run.new.watch)) (design_term script.now.design.now) script.now.opts script.now.extra end
         (sinks (K.written out.old) (K.faults out.old) (J.written journal.old) (J.faults journal.old))
         (sinks (K.written out.new) (K.faults out.new) (J.written journal.new) (J.faults journal.new))) }
     ensures stops { IfErr result (λ why. Stops (design_term script.now.design.now) script.now.opts script.now.extra
@@ -61,43 +66,49 @@ fn walk_through<K: Sink, J: Sink>(
         (sinks (K.written out.new) (K.faults out.new) (J.written journal.new) (J.faults journal.new))) }
 {
     let stmts = script.design.stmts.as_slice();
-    walk_all(alloc, script, progress, stmts, out, journal)?;
-    Ok(end_of(progress))
+    walk_all(alloc, script, run, stmts, out, journal)?;
+    Ok(end_of(&run.progress))
 }
 
-/// The run of a script whose classes are made.
-fn run_with<K: Sink, J: Sink>(
+/// The run of a script whose classes are made. The watch is handed back.
+fn run_with<K: Sink, J: Sink, W: Watch + Drop>(
     alloc: Global,
     script: &Script<'_>,
+    watch: W,
     out: &mut K,
     journal: &mut J,
-) -> Result<End, Stop>
+) -> Result<(End, W), Stop>
     requires classes { AreClasses (design_term script.now.design.now) script.now.classes.now }
     requires allowed { AreAllowed script.now.opts }
     requires can_run { CanRun (design_term script.now.design.now) script.now.opts }
-    ensures ends { IfOk result (λ end. Ends (design_term script.now.design.now) script.now.opts script.now.extra end
+    requires room { length (statements (design_term script.now.design.now)) ≤ W.left watch }
+    ensures ends { IfOk result (λ ran. Watches (taken W.step) (W.content watch) (Some (W.content ran.1)) (design_term script.now.design.now) script.now.opts script.now.extra ran.0
         (sinks (K.written out.old) (K.faults out.old) (J.written journal.old) (J.faults journal.old))
         (sinks (K.written out.new) (K.faults out.new) (J.written journal.new) (J.faults journal.new))) }
     ensures stops { IfErr result (λ why. Stops (design_term script.now.design.now) script.now.opts script.now.extra
         (sinks (K.written out.old) (K.faults out.old) (J.written journal.old) (J.faults journal.old)) why
         (sinks (K.written out.new) (K.faults out.new) (J.written journal.new) (J.faults journal.new))) }
 {
-    let mut progress = Progress::begin(alloc, script.design)?;
-    walk_through(alloc, script, &mut progress, out, journal)
+    let progress = Progress::begin(alloc, script.design)?;
+    let mut run = Watched { progress, watch };
+    let end = walk_through(alloc, script, &mut run, out, journal)?;
+    Ok((end, run.watch))
 }
 
-/// The run of a script.
-fn ran<K: Sink, J: Sink>(
+/// The run of a script. The watch is handed back.
+fn ran<K: Sink, J: Sink, W: Watch + Drop>(
     alloc: Global,
     design: &Design,
     opts: Options,
     extra: Extra,
+    watch: W,
     out: &mut K,
     journal: &mut J,
-) -> Result<End, Stop>
+) -> Result<(End, W), Stop>
     requires allowed { AreAllowed opts }
     requires can_run { CanRun (design_term design.now) opts }
-    ensures ends { IfOk result (λ end. Ends (design_term design.now) opts extra end
+    requires room { length (statements (design_term design.now)) ≤ W.left watch }
+    ensures ends { IfOk result (λ ran. Watches (taken W.step) (W.content watch) (Some (W.content ran.1)) (design_term design.now) opts extra ran.0
         (sinks (K.written out.old) (K.faults out.old) (J.written journal.old) (J.faults journal.old))
         (sinks (K.written out.new) (K.faults out.new) (J.written journal.new) (J.faults journal.new))) }
     ensures stops { IfErr result (λ why. Stops (design_term design.now) opts extra
@@ -111,7 +122,32 @@ fn ran<K: Sink, J: Sink>(
         opts,
         extra,
     };
-    run_with(alloc, &script, out, journal)
+    run_with(alloc, &script, watch, out, journal)
+}
+
+/// Runs a script as `run_script_extra` does, while a watch takes a sample behind each call that answers 1: the class of the object, and its numbers then. The watch can take one of each statement.
+///
+/// With `Ended` and `Limit` the watch is handed back, and what it tells is what it told, one step further by each of these samples in their order.
+pub fn run_watched<K: Sink, J: Sink, W: Watch + Drop>(
+    alloc: Global,
+    design: &Design,
+    opts: Options,
+    extra: Extra,
+    watch: W,
+    out: &mut K,
+    journal: &mut J,
+) -> (End, Option<W>)
+    requires allowed { AreAllowed opts }
+    requires can_run { CanRun (design_term design.now) opts }
+    requires room { length (statements (design_term design.now)) ≤ W.left watch }
+    ensures { Watches (taken W.step) (W.content watch) (option_map W.content result.1) (design_term design.now) opts extra result.0
+        (sinks (K.written out.old) (K.faults out.old) (J.written journal.old) (J.faults journal.old))
+        (sinks (K.written out.new) (K.faults out.new) (J.written journal.new) (J.faults journal.new)) }
+{
+    match ran(alloc, design, opts, extra, watch, out, journal) {
+        Ok((end, watch)) => (end, Some(watch)),
+        Err(why) => (End::Stopped(why), None),
+    }
 }
 
 /// Runs a script to its end, or up to a limit: what its calls tell, and what is asked for besides, is written to `out` call by call, and the log of each question that was given up to `journal`.
@@ -131,10 +167,9 @@ pub fn run_script_extra<K: Sink, J: Sink>(
         (sinks (K.written out.old) (K.faults out.old) (J.written journal.old) (J.faults journal.old))
         (sinks (K.written out.new) (K.faults out.new) (J.written journal.new) (J.faults journal.new)) }
 {
-    match ran(alloc, design, opts, extra, out, journal) {
-        Ok(end) => end,
-        Err(why) => End::Stopped(why),
-    }
+    let watch = NoWatch { left: u64::MAX };
+    let (end, _watch) = run_watched(alloc, design, opts, extra, watch, out, journal);
+    end
 }
 
 /// Runs a script as `run_script_extra` does, with nothing asked for besides.

@@ -6,23 +6,26 @@ ghost use Rattle.svr_effect.specs.Inherited.{AreClasses};
 ghost use Rattle.svr_script.specs.Statement.{in_order, all_in_order};
 ghost use Rattle.svr_run.specs.CanRun.{AreAllowed, CanRun};
 ghost use Rattle.svr_run.specs.Telling.{sinks};
+ghost use Rattle.svr_run.specs.Watching.{watcher};
 ghost use Rattle.svr_run.specs.Reached.{Breaks, Goes, IsBefore};
 
 use crate::call::execute_call;
 use crate::plain::execute_plain;
-use crate::progress::Progress;
 use crate::script::Script;
 use crate::stop::Stop;
+use crate::turns::{repeat_call, repeated_call};
+use crate::watched::Watched;
 use std::alloc::Global;
 use svr_edge::Sink;
 use svr_typed::TStmt;
+use svr_world::Watch;
 
 /// Executes a statement, but nothing behind a limit.
 #[cycle(walk)]
-fn walk_one<K: Sink, J: Sink>(
+fn walk_one<K: Sink, J: Sink, W: Watch>(
     alloc: Global,
     script: &Script<'_>,
-    progress: &mut Progress,
+    run: &mut Watched<W>,
     stmt: &TStmt,
     out: &mut K,
     journal: &mut J,
@@ -30,43 +33,46 @@ fn walk_one<K: Sink, J: Sink>(
     requires classes { AreClasses (design_term script.now.design.now) script.now.classes.now }
     requires allowed { AreAllowed script.now.opts }
     requires can_run { CanRun (design_term script.now.design.now) script.now.opts }
-    requires before { IsBefore (design_term script.now.design.now) script.now.opts script.now.extra (in_order (stmt_term stmt.now)) progress.old
+    requires before { IsBefore (watcher W.content W.step W.left) (design_term script.now.design.now) script.now.opts script.now.extra (in_order (stmt_term stmt.now)) run.old
         (sinks (K.written out.old) (K.faults out.old) (J.written journal.old) (J.faults journal.old)) }
-    ensures goes { OnOk result (Goes (design_term script.now.design.now) script.now.opts script.now.extra (in_order (stmt_term stmt.now)) progress.old
-        (sinks (K.written out.old) (K.faults out.old) (J.written journal.old) (J.faults journal.old)) progress.new
+    ensures goes { OnOk result (Goes (watcher W.content W.step W.left) (design_term script.now.design.now) script.now.opts script.now.extra (in_order (stmt_term stmt.now)) run.old
+        (sinks (K.written out.old) (K.faults out.old) (J.written journal.old) (J.faults journal.old)) run.new
         (sinks (K.written out.new) (K.faults out.new) (J.written journal.new) (J.faults journal.new))) }
-    ensures breaks { IfErr result (λ why. Breaks (design_term script.now.design.now) script.now.opts script.now.extra (in_order (stmt_term stmt.now)) progress.old
+    ensures breaks { IfErr result (λ why. Breaks (watcher W.content W.step W.left) (design_term script.now.design.now) script.now.opts script.now.extra (in_order (stmt_term stmt.now)) run.old
         (sinks (K.written out.old) (K.faults out.old) (J.written journal.old) (J.faults journal.old)) why
         (sinks (K.written out.new) (K.faults out.new) (J.written journal.new) (J.faults journal.new))) }
 {
-    if progress.limited {
+    if run.progress.limited {
         return Ok(());
     }
+    if let Some(turns) = repeated_call(stmt) {
+        return repeat_call(alloc, script, run, turns.count, turns.call, out, journal);
+    }
     match stmt {
-        TStmt::Call(call) => execute_call(alloc, script, progress, call, out, journal),
+        TStmt::Call(call) => execute_call(alloc, script, run, call, out, journal),
         TStmt::Repeat(count, body) => {
             for _turn in 0..*count {
-                walk_one(alloc, script, progress, body.get(), out, journal)?;
+                walk_one(alloc, script, run, body.get(), out, journal)?;
             }
             Ok(())
         }
-        TStmt::List(stmts) => walk_all(alloc, script, progress, stmts.as_slice(), out, journal),
+        TStmt::List(stmts) => walk_all(alloc, script, run, stmts.as_slice(), out, journal),
         TStmt::Make(_)
         | TStmt::SetVar(_, _)
         | TStmt::SetProp { .. }
         | TStmt::Resize { .. }
         | TStmt::Pattern { .. }
         | TStmt::RandMode { .. }
-        | TStmt::ConstraintMode { .. } => execute_plain(alloc, script, progress, stmt),
+        | TStmt::ConstraintMode { .. } => execute_plain(alloc, script, run, stmt),
     }
 }
 
 /// Executes statements one after the other, but nothing behind a limit.
 #[cycle(walk)]
-pub(crate) fn walk_all<K: Sink, J: Sink>(
+pub(crate) fn walk_all<K: Sink, J: Sink, W: Watch>(
     alloc: Global,
     script: &Script<'_>,
-    progress: &mut Progress,
+    run: &mut Watched<W>,
     stmts: &[TStmt],
     out: &mut K,
     journal: &mut J,
@@ -74,17 +80,17 @@ pub(crate) fn walk_all<K: Sink, J: Sink>(
     requires classes { AreClasses (design_term script.now.design.now) script.now.classes.now }
     requires allowed { AreAllowed script.now.opts }
     requires can_run { CanRun (design_term script.now.design.now) script.now.opts }
-    requires before { IsBefore (design_term script.now.design.now) script.now.opts script.now.extra (all_in_order (stmt_terms stmts.now)) progress.old
+    requires before { IsBefore (watcher W.content W.step W.left) (design_term script.now.design.now) script.now.opts script.now.extra (all_in_order (stmt_terms stmts.now)) run.old
         (sinks (K.written out.old) (K.faults out.old) (J.written journal.old) (J.faults journal.old)) }
-    ensures goes { OnOk result (Goes (design_term script.now.design.now) script.now.opts script.now.extra (all_in_order (stmt_terms stmts.now)) progress.old
-        (sinks (K.written out.old) (K.faults out.old) (J.written journal.old) (J.faults journal.old)) progress.new
+    ensures goes { OnOk result (Goes (watcher W.content W.step W.left) (design_term script.now.design.now) script.now.opts script.now.extra (all_in_order (stmt_terms stmts.now)) run.old
+        (sinks (K.written out.old) (K.faults out.old) (J.written journal.old) (J.faults journal.old)) run.new
         (sinks (K.written out.new) (K.faults out.new) (J.written journal.new) (J.faults journal.new))) }
-    ensures breaks { IfErr result (λ why. Breaks (design_term script.now.design.now) script.now.opts script.now.extra (all_in_order (stmt_terms stmts.now)) progress.old
+    ensures breaks { IfErr result (λ why. Breaks (watcher W.content W.step W.left) (design_term script.now.design.now) script.now.opts script.now.extra (all_in_order (stmt_terms stmts.now)) run.old
         (sinks (K.written out.old) (K.faults out.old) (J.written journal.old) (J.faults journal.old)) why
         (sinks (K.written out.new) (K.faults out.new) (J.written journal.new) (J.faults journal.new))) }
 {
     for stmt in stmts {
-        walk_one(alloc, script, progress, stmt, out, journal)?;
+        walk_one(alloc, script, run, stmt, out, journal)?;
     }
     Ok(())
 }

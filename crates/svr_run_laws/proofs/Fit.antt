@@ -29,7 +29,7 @@ pub record IsFit (d : DesignTerm) (w : WorldTerm) : Type 0 where
 
 -- ---- the numbers of an object
 
-below_at : (n : ℕ) (numbers : List ℕ) (i : ℕ) → All (λ v. v < 2 ^ n) numbers → slice_index numbers i < 2 ^ n
+pub below_at : (n : ℕ) (numbers : List ℕ) (i : ℕ) → All (λ v. v < 2 ^ n) numbers → slice_index numbers i < 2 ^ n
 below_at n [] i h = pow_pos n
 below_at n (x ∷ xs) zero h = All-head (λ v. v < 2 ^ n) x xs h
 below_at n (x ∷ xs) (suc i) h = below_at n xs i (All-tail (λ v. v < 2 ^ n) x xs h)

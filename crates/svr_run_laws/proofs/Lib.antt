@@ -11,4 +11,5 @@ mod Callable
 mod Order
 mod Kept
 mod Effects
+mod Sampled
 pub mod Reached

@@ -16,4 +16,6 @@ mod printed;
 #[cfg(test)]
 mod reading;
 #[cfg(test)]
+mod repeated;
+#[cfg(test)]
 mod running;
