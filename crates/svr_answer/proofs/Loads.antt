@@ -27,7 +27,7 @@ use Rattle.svr_status.specs.declared.status.Status.{Status}
 use Rattle.svr_status.specs.declared.status.Status.TheVariants.{AllOne, SomeZero, Usage, SomeGivenUp, Refused, Limited, ReadFault, WriteFault, NoMemory}
 use Rattle.svr_status.proofs.Statuses.{fault_no_read, memory_no_read, memory_no_write, refused_no_read, refused_no_write, limited_no_read, limited_no_write}
 use Rattle.svr_answer.specs.Lines.{load_line}
-use Rattle.svr_answer.specs.Ends.{LoadEnds, LoadBegins}
+use Rattle.svr_answer.specs.Ends.{LoadBegins}
 use Rattle.svr_answer.specs.Answers.{refused, LoadAnswers, LoadMayTell}
 use Rattle.svr_answer.specs.Parts.{HasStatus, LoadAnswered, Told, totals}
 

@@ -11,9 +11,9 @@ use Rattle.svr_run.specs.Telling.{Sinks}
 use Rattle.svr_words.specs.declared.request.Run.{Run}
 use Rattle.svr_refused.specs.Texts.{IsRefused}
 use Rattle.svr_status.specs.Lines.{refused_at, nowhere}
-use Rattle.svr_status.specs.Writing.{prints, Writing, HasRead, HasReadText}
+use Rattle.svr_status.specs.Writing.{Writing}
 use Rattle.svr_status.specs.declared.status.Status.{Status}
-use Rattle.svr_status.specs.declared.status.Status.TheVariants.{AllOne, SomeZero, Usage, SomeGivenUp, Refused, Limited, ReadFault, WriteFault, NoMemory}
+use Rattle.svr_status.specs.declared.status.Status.TheVariants.{Usage, Refused, WriteFault, NoMemory}
 use Rattle.svr_status.proofs.Statuses.{fault_no_read, memory_no_read, memory_no_write, refused_no_read, refused_no_write}
 use Rattle.svr_status.proofs.Told.{if_told, read_all, read_some}
 use Rattle.svr_status.proofs.Written.{refusal_is_written}
@@ -50,32 +50,7 @@ nothing_answers asked text now = record {
   journal_later = omega arith;
 }
 
--- ---- how far it was read
-
--- the answer to a text comes once it was read to its end
-pub answer_read : (asked : Run) (text : List ℕ) (status : Status) (now later : Sinks) (old new : Option (List ℕ)) → Answered asked text status now later → IsAtEnd new → HasRead TEXT_LIMIT status old new
-answer_read asked text AllOne now later old new answered end = end
-answer_read asked text SomeZero now later old new answered end = end
-answer_read asked text SomeGivenUp now later old new answered end = end
-answer_read asked text Limited now later old new answered end = end
-answer_read asked text Refused now later old new answered end = inl end
-answer_read asked text Usage now later old new answered end = absurd answered.writing.1
-answer_read asked text ReadFault now later old new answered end = tt
-answer_read asked text WriteFault now later old new answered end = tt
-answer_read asked text NoMemory now later old new answered end = tt
-
-pub answer_read_text : (asked : Run) (text : List ℕ) (status : Status) (now later : Sinks) (all : List ℕ) (old new : Option (List ℕ))
-    → Answered asked text status now later → length all ≤ TEXT_LIMIT → IsAtEnd new → HasReadText TEXT_LIMIT all status old new
-answer_read_text asked text AllOne now later all old new answered small end = end
-answer_read_text asked text SomeZero now later all old new answered small end = end
-answer_read_text asked text SomeGivenUp now later all old new answered small end = end
-answer_read_text asked text Limited now later all old new answered small end = end
-answer_read_text asked text Refused now later all old new answered small end = inl (small, end)
-answer_read_text asked text Usage now later all old new answered small end = absurd answered.writing.1
-answer_read_text asked text ReadFault now later all old new answered small end = tt
-answer_read_text asked text WriteFault now later all old new answered small end = tt
-answer_read_text asked text NoMemory now later all old new answered small end = tt
-
+-- it is no usage error
 pub answer_no_usage : (asked : Run) (text : List ℕ) (status : Status) (now later : Sinks) → Answered asked text status now later → status ≡ Usage → ⊥
 answer_no_usage asked text status now later answered e = (subst (λ s. Answered asked text s now later) e answered).writing.1
 

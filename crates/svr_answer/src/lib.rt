@@ -9,5 +9,6 @@ mod line;
 mod made;
 mod script;
 
+pub use count::status_of;
 pub use made::load;
 pub use script::run_source;

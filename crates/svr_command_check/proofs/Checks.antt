@@ -13,7 +13,7 @@ use Rattle.svr_check.specs.Checked.{IsChecked}
 use Rattle.svr_refusal.specs.declared.refusal.Refusal.TheVariants as refusal
 use Rattle.svr_run.specs.Telling.{sinks}
 use Rattle.svr_status.specs.Lines.{refused_at, nowhere}
-use Rattle.svr_status.specs.Writing.{prints, Writing, HasRead, HasReadText}
+use Rattle.svr_status.specs.Writing.{prints, Writing}
 use Rattle.svr_status.specs.declared.status.Status.{Status}
 use Rattle.svr_status.specs.declared.status.Status.TheVariants.{AllOne, SomeZero, Usage, SomeGivenUp, Refused, Limited, ReadFault, WriteFault, NoMemory}
 use Rattle.svr_status.proofs.Statuses.{fault_no_usage, fault_no_read, memory_no_usage, memory_no_read, memory_no_write}
@@ -131,28 +131,3 @@ pub fault_told : (o : Option (List ℕ)) (old journal : Option (List ℕ)) (was 
     → IfSome o (λ text. Writing (CheckAnswers text) (CheckMayTell text) ReadFault (sinks old was journal n) (sinks old was journal n))
 fault_told o old journal was n =
     if_told o (λ text. Writing (CheckAnswers text) (CheckMayTell text) ReadFault (sinks old was journal n) (sinks old was journal n)) (λ text told. (Keeps-refl old, Keeps-refl journal))
-
--- ---- how far the text was read
-
-said_read : (said : Checked) (old new : Option (List ℕ)) → IsAtEnd new → HasRead MOST_TEXT (checked_status said) old new
-said_read (checked.Judged says.Accepted) old new end = end
-said_read (checked.Judged (says.Rejected id why)) old new end = end
-said_read (checked.Refused number place) old new end = inl end
-
-said_read_text : (said : Checked) (all : List ℕ) (old new : Option (List ℕ)) → length all ≤ MOST_TEXT → IsAtEnd new → HasReadText MOST_TEXT all (checked_status said) old new
-said_read_text (checked.Judged says.Accepted) all old new small end = end
-said_read_text (checked.Judged (says.Rejected id why)) all old new small end = end
-said_read_text (checked.Refused number place) all old new small end = inl (small, end)
-
-pub checks_read : (text : List ℕ) (status : Status) (before after : Option (List ℕ)) (was now : ℕ) (old new : Option (List ℕ)) → Checks text status before was after now → IsAtEnd new → HasRead MOST_TEXT status old new
-checks_read text status before after was now old new (inl (said, is, inl (e, all))) end = subst (λ (s : Status). HasRead MOST_TEXT s old new) (sym e) (said_read said old new end)
-checks_read text status before after was now old new (inl (said, is, inr (inl (e, front, rose)))) end = subst (λ (s : Status). HasRead MOST_TEXT s old new) (sym e) tt
-checks_read text status before after was now old new (inl (said, is, inr (inr (e, kept)))) end = subst (λ (s : Status). HasRead MOST_TEXT s old new) (sym e) tt
-checks_read text status before after was now old new (inr (e, kept)) end = subst (λ (s : Status). HasRead MOST_TEXT s old new) (sym e) tt
-
-pub checks_read_text : (text : List ℕ) (status : Status) (before after : Option (List ℕ)) (was now : ℕ) (all : List ℕ) (old new : Option (List ℕ)) → Checks text status before was after now
-    → length all ≤ MOST_TEXT → IsAtEnd new → HasReadText MOST_TEXT all status old new
-checks_read_text text status before after was now all old new (inl (said, is, inl (e, line))) small end = subst (λ (s : Status). HasReadText MOST_TEXT all s old new) (sym e) (said_read_text said all old new small end)
-checks_read_text text status before after was now all old new (inl (said, is, inr (inl (e, front, rose)))) small end = subst (λ (s : Status). HasReadText MOST_TEXT all s old new) (sym e) tt
-checks_read_text text status before after was now all old new (inl (said, is, inr (inr (e, kept)))) small end = subst (λ (s : Status). HasReadText MOST_TEXT all s old new) (sym e) tt
-checks_read_text text status before after was now all old new (inr (e, kept)) small end = subst (λ (s : Status). HasReadText MOST_TEXT all s old new) (sym e) tt

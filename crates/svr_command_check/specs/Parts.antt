@@ -11,7 +11,7 @@ use Rattle.svr_check.specs.Lines.{verdict_line}
 use Rattle.svr_check.specs.Checked.{IsChecked}
 use Rattle.svr_status.specs.Lines.{refused_as}
 use Rattle.svr_status.specs.declared.status.Status.{Status}
-use Rattle.svr_status.specs.declared.status.Status.TheVariants.{AllOne, SomeZero, Usage, SomeGivenUp, Refused, Limited, ReadFault, WriteFault, NoMemory}
+use Rattle.svr_status.specs.declared.status.Status.TheVariants.{AllOne, SomeZero, Refused, WriteFault, NoMemory}
 
 -- the line for what is said of a text, and the status with it
 abbrev pub checked_line : Checked → List ℕ

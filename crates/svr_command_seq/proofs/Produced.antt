@@ -1,5 +1,5 @@
 -- What the command `seq` has written.
-use Rattle.std.proofs.Common.{◌≡◌, ◌≤◌, ◌<◌, ◌⊎◌, ℕ, ◌+◌, Bool, true, false, List, [], ◌++◌, length, take, Option, Some, None, IfSome, refl, sym, ◌∙◌, subst, inl, inr, arith}
+use Rattle.std.proofs.Common.{◌≡◌, ◌≤◌, ◌<◌, ◌⊎◌, ℕ, ◌+◌, Bool, true, false, List, [], length, take, Option, IfSome, refl, sym, ◌∙◌, subst, inl, inr, arith}
 use Rattle.std.specs.Io.KnownBytes.{Appends, Consumes, IsAtEnd, Keeps}
 use Rattle.std.proofs.KnownBytes.{Appends-nil, Appends-trans, Appends-kept, Keeps-refl}
 use Rattle.svr_edge.specs.Known.{AppendsFront, Takes}
@@ -10,15 +10,15 @@ use Rattle.svr_refusal.specs.declared.refusal.Refusal.TheVariants as refusal
 use Rattle.svr_run.specs.Telling.{sinks}
 use Rattle.svr_seq_lines.specs.declared.end.End.TheVariants as end
 use Rattle.svr_seq_lines.specs.declared.end.Stop.TheVariants as stop
-use Rattle.svr_seq_lines.specs.Said.{HasLines, IsRefused, Tells, TellsFront, Stops}
+use Rattle.svr_seq_lines.specs.Said.{HasLines, IsRefused, Tells, Stops}
 use Rattle.svr_status.specs.Lines.{refused_as, refused_at, nowhere}
-use Rattle.svr_status.specs.Writing.{prints, Writing, HasRead, HasReadText}
+use Rattle.svr_status.specs.Writing.{prints, Writing}
 use Rattle.svr_status.specs.declared.status.Status.{Status}
-use Rattle.svr_status.specs.declared.status.Status.TheVariants.{AllOne, SomeZero, Usage, SomeGivenUp, Refused, Limited, ReadFault, WriteFault, NoMemory}
+use Rattle.svr_status.specs.declared.status.Status.TheVariants.{AllOne, Refused, Limited, ReadFault, WriteFault, NoMemory}
 use Rattle.svr_status.proofs.Statuses.{refused_no_read, refused_no_write, fault_no_read, memory_no_read, memory_no_write}
 use Rattle.svr_status.proofs.Told.{if_told, read_all, read_some}
 use Rattle.svr_status.proofs.Written.{refusal_is_written}
-use Rattle.svr_command_seq.specs.Answers.{AreLines, too_long_to_produce, no_sequence, SeqAnswers, SeqMayTell}
+use Rattle.svr_command_seq.specs.Answers.{too_long_to_produce, no_sequence, SeqAnswers, SeqMayTell}
 
 module _ (seed count : ℕ) (text : List ℕ) (small : length text ≤ TEXT_LIMIT) where
   -- lines are what the command may tell
@@ -118,27 +118,3 @@ pub fault_told : (seed count : ℕ) (o old journal : Option (List ℕ)) (was n :
     → IfSome o (λ text. Writing (SeqAnswers seed count text) (SeqMayTell seed count text) ReadFault (sinks old was journal n) (sinks old was journal n))
 fault_told seed count o old journal was n =
     if_told o (λ text. Writing (SeqAnswers seed count text) (SeqMayTell seed count text) ReadFault (sinks old was journal n) (sinks old was journal n)) (λ text told. (Keeps-refl old, Keeps-refl journal))
-
--- ---- how far the text was read
-
-pub all_read : (status : Status) (old new : Option (List ℕ)) → (status ≡ Usage → ⊥) → IsAtEnd new → HasRead TEXT_LIMIT status old new
-all_read AllOne old new other end = end
-all_read SomeZero old new other end = end
-all_read Usage old new other end = absurd (other refl)
-all_read SomeGivenUp old new other end = end
-all_read Refused old new other end = inl end
-all_read Limited old new other end = end
-all_read ReadFault old new other end = tt
-all_read WriteFault old new other end = tt
-all_read NoMemory old new other end = tt
-
-pub all_read_text : (status : Status) (text : List ℕ) (old new : Option (List ℕ)) → (status ≡ Usage → ⊥) → length text ≤ TEXT_LIMIT → IsAtEnd new → HasReadText TEXT_LIMIT text status old new
-all_read_text AllOne text old new other small end = end
-all_read_text SomeZero text old new other small end = end
-all_read_text Usage text old new other small end = absurd (other refl)
-all_read_text SomeGivenUp text old new other small end = end
-all_read_text Refused text old new other small end = inl (small, end)
-all_read_text Limited text old new other small end = end
-all_read_text ReadFault text old new other small end = tt
-all_read_text WriteFault text old new other small end = tt
-all_read_text NoMemory text old new other small end = tt

@@ -1,25 +1,26 @@
 -- Which answers a script and a derivation have.
-use Rattle.std.proofs.Common.{◌≡◌, ◌≤◌, ◌<◌, ℕ, List, length, refl, sym, ◌∙◌, subst, inl, inr, arith}
-use Rattle.svr_limits.specs.declared.limit.TheConstants.{TEXT_LIMIT}
+use Rattle.std.proofs.Common.{◌≡◌, ℕ, List, refl, sym, ◌∙◌, subst, inl, inr, arith}
 use Rattle.svr_script.specs.Ending as ending
 use Rattle.svr_script.specs.Ending.{Output}
+use Rattle.svr_phase.specs.declared.options.Options.{Options}
 use Rattle.svr_run.specs.Telling.{Sinks}
 use Rattle.svr_run_budget_laws.specs.Runs.{CallsAskLittle}
 use Rattle.svr_run_budget_laws.proofs.Along.{ends_answered}
 use Rattle.svr_check.proofs.Excluded.{files_are_judged}
 use Rattle.svr_words.specs.declared.request.Run.{Run}
-use Rattle.svr_words.specs.Words.{IsCommand}
-use Rattle.svr_words.proofs.Taking.{run_is_no_load, run_is_no_check, load_is_no_check, run_is_no_seq, load_is_no_seq, check_is_no_seq}
+use Rattle.svr_words.specs.Words.{IsCommand, IsCover}
+use Rattle.svr_words.proofs.Taking.{run_is_no_load, run_is_no_check, load_is_no_check, run_is_no_seq, load_is_no_seq, check_is_no_seq, run_is_no_cover, load_is_no_cover, check_is_no_cover, seq_is_no_cover}
 use Rattle.svr_answer.specs.Ends.{Ends, printing}
 use Rattle.svr_answer.specs.Answers.{Refuses, too_long, refused}
 use Rattle.svr_command_check.specs.Answers.{RefusesCheck, too_long_to_check, no_file}
 use Rattle.svr_command_seq.specs.Answers.{RefusesSeq, too_long_to_produce, no_sequence}
+use Rattle.svr_command_cover.specs.Answers.{Covers}
 use Rattle.svr_seq_lines.proofs.Excluded.{not_refused as accepted_not_refused}
 use Rattle.svr_status.specs.declared.status.Status.{Status}
 use Rattle.svr_status.specs.declared.status.Status.TheVariants.{AllOne, SomeZero, Usage, SomeGivenUp, Refused, Limited, ReadFault, WriteFault, NoMemory}
 use Rattle.svr_status.proofs.Statuses.{refused_no_usage, limited_no_usage, given_no_usage}
 use Rattle.svr_program.specs.Outcome.{Says, Writes}
-use Rattle.svr_program.specs.Complete.{IsAnswerable, IsAnswered, RunsAreComplete, IsSmall, IsAnsweredWhole, SmallRunsAreAnswered, IsCheckable, IsVerdict, ChecksAreComplete, IsProducible, IsProduced, LinesAreComplete}
+use Rattle.svr_program.specs.Complete.{IsAnswerable, IsAnswered, RunsAreComplete, IsSmall, IsAnsweredWhole, SmallRunsAreAnswered, IsCheckable, IsVerdict, ChecksAreComplete, IsProducible, IsProduced, LinesAreComplete, IsCoverable, CoverageIsComplete}
 
 same_run : (words : List (List ℕ)) (a b : Run) → IsCommand words a → IsCommand words b → a ≡ b
 same_run words a b h k = h.options ∙ sym k.options
@@ -41,17 +42,20 @@ module _ (words : List (List ℕ)) (text : List ℕ) (able : IsAnswerable words 
   is_answered Usage old new (output, inr (inl (run, asked, none)), out, journal) read write = absurd none
   is_answered Usage old new (output, inr (inr (inl (count, opts, asked, none))), out, journal) read write = absurd none
   is_answered Usage old new (output, inr (inr (inr (inl (asked, none)))), out, journal) read write = absurd none
-  is_answered Usage old new (output, inr (inr (inr (inr (seed, many, asked, none)))), out, journal) read write = absurd none
+  is_answered Usage old new (output, inr (inr (inr (inr (inl (seed, many, asked, none))))), out, journal) read write = absurd none
+  is_answered Usage old new (output, inr (inr (inr (inr (inr (opts, asked, none))))), out, journal) read write = absurd none
   is_answered Refused old new (output, inl (e, none, is), out, journal) read write = absurd (refused_no_usage e)
   is_answered Refused old new (output, inr (inl (run, asked, refuses)), out, journal) read write = absurd (never_refused output refuses)
   is_answered Refused old new (output, inr (inr (inl (count, opts, asked, refuses))), out, journal) read write = absurd (run_is_no_load words able.run count opts able.asked asked)
   is_answered Refused old new (output, inr (inr (inr (inl (asked, refuses)))), out, journal) read write = absurd (run_is_no_check words able.run able.asked asked)
-  is_answered Refused old new (output, inr (inr (inr (inr (seed, many, asked, refuses)))), out, journal) read write = absurd (run_is_no_seq words able.run seed many able.asked asked)
+  is_answered Refused old new (output, inr (inr (inr (inr (inl (seed, many, asked, refuses))))), out, journal) read write = absurd (run_is_no_seq words able.run seed many able.asked asked)
+  is_answered Refused old new (output, inr (inr (inr (inr (inr (opts, asked, refuses))))), out, journal) read write = absurd (run_is_no_cover words able.run opts able.asked asked)
   is_answered Limited old new (output, inl (e, none, is), out, journal) read write = absurd (limited_no_usage e)
   is_answered Limited old new (output, inr (inl (run, asked, answers)), out, journal) read write = absurd (never_limited run output asked answers.1)
   is_answered Limited old new (output, inr (inr (inl (count, opts, asked, answers))), out, journal) read write = absurd (run_is_no_load words able.run count opts able.asked asked)
   is_answered Limited old new (output, inr (inr (inr (inl (asked, none)))), out, journal) read write = absurd none
-  is_answered Limited old new (output, inr (inr (inr (inr (seed, many, asked, none)))), out, journal) read write = absurd (run_is_no_seq words able.run seed many able.asked asked)
+  is_answered Limited old new (output, inr (inr (inr (inr (inl (seed, many, asked, none))))), out, journal) read write = absurd (run_is_no_seq words able.run seed many able.asked asked)
+  is_answered Limited old new (output, inr (inr (inr (inr (inr (opts, asked, answers))))), out, journal) read write = absurd (run_is_no_cover words able.run opts able.asked asked)
   is_answered ReadFault old new writes read write = absurd (read refl)
   is_answered WriteFault old new writes read write = absurd (write refl)
 
@@ -74,7 +78,8 @@ module _ (words : List (List ℕ)) (text : List ℕ) (small : IsSmall words text
   none_said output (inr (inl (run, asked, answers))) = never_given_up run output asked answers.1
   none_said output (inr (inr (inl (count, opts, asked, answers)))) = run_is_no_load words able.run count opts able.asked asked
   none_said output (inr (inr (inr (inl (asked, none))))) = none
-  none_said output (inr (inr (inr (inr (seed, many, asked, none))))) = none
+  none_said output (inr (inr (inr (inr (inl (seed, many, asked, none)))))) = none
+  none_said output (inr (inr (inr (inr (inr (opts, asked, answers)))))) = run_is_no_cover words able.run opts able.asked asked
 
   is_whole : (status : Status) (old new : Sinks) → Writes words text status old new → IsAnswered status → IsAnsweredWhole status
   is_whole status old new writes (inl one) = inl one
@@ -103,22 +108,26 @@ module _ (words : List (List ℕ)) (text : List ℕ) (able : IsCheckable words t
   is_verdict Usage old new (output, inr (inl (run, asked, none)), out, journal) read write = absurd none
   is_verdict Usage old new (output, inr (inr (inl (count, opts, asked, none))), out, journal) read write = absurd none
   is_verdict Usage old new (output, inr (inr (inr (inl (asked, none)))), out, journal) read write = absurd none
-  is_verdict Usage old new (output, inr (inr (inr (inr (seed, many, asked, none)))), out, journal) read write = absurd none
+  is_verdict Usage old new (output, inr (inr (inr (inr (inl (seed, many, asked, none))))), out, journal) read write = absurd none
+  is_verdict Usage old new (output, inr (inr (inr (inr (inr (opts, asked, none))))), out, journal) read write = absurd none
   is_verdict SomeGivenUp old new (output, inl (e, none, is), out, journal) read write = absurd (given_no_usage e)
   is_verdict SomeGivenUp old new (output, inr (inl (run, asked, answers)), out, journal) read write = absurd (run_is_no_check words run asked able.asked)
   is_verdict SomeGivenUp old new (output, inr (inr (inl (count, opts, asked, answers))), out, journal) read write = absurd (load_is_no_check words count opts asked able.asked)
   is_verdict SomeGivenUp old new (output, inr (inr (inr (inl (asked, none)))), out, journal) read write = absurd none
-  is_verdict SomeGivenUp old new (output, inr (inr (inr (inr (seed, many, asked, none)))), out, journal) read write = absurd none
+  is_verdict SomeGivenUp old new (output, inr (inr (inr (inr (inl (seed, many, asked, none))))), out, journal) read write = absurd none
+  is_verdict SomeGivenUp old new (output, inr (inr (inr (inr (inr (opts, asked, answers))))), out, journal) read write = absurd (check_is_no_cover words opts able.asked asked)
   is_verdict Refused old new (output, inl (e, none, is), out, journal) read write = absurd (refused_no_usage e)
   is_verdict Refused old new (output, inr (inl (run, asked, refuses)), out, journal) read write = absurd (run_is_no_check words run asked able.asked)
   is_verdict Refused old new (output, inr (inr (inl (count, opts, asked, refuses))), out, journal) read write = absurd (load_is_no_check words count opts asked able.asked)
   is_verdict Refused old new (output, inr (inr (inr (inl (asked, refuses)))), out, journal) read write = absurd (not_refused output refuses)
-  is_verdict Refused old new (output, inr (inr (inr (inr (seed, many, asked, refuses)))), out, journal) read write = absurd (check_is_no_seq words seed many able.asked asked)
+  is_verdict Refused old new (output, inr (inr (inr (inr (inl (seed, many, asked, refuses))))), out, journal) read write = absurd (check_is_no_seq words seed many able.asked asked)
+  is_verdict Refused old new (output, inr (inr (inr (inr (inr (opts, asked, refuses))))), out, journal) read write = absurd (check_is_no_cover words opts able.asked asked)
   is_verdict Limited old new (output, inl (e, none, is), out, journal) read write = absurd (limited_no_usage e)
   is_verdict Limited old new (output, inr (inl (run, asked, answers)), out, journal) read write = absurd (run_is_no_check words run asked able.asked)
   is_verdict Limited old new (output, inr (inr (inl (count, opts, asked, answers))), out, journal) read write = absurd (load_is_no_check words count opts asked able.asked)
   is_verdict Limited old new (output, inr (inr (inr (inl (asked, none)))), out, journal) read write = absurd none
-  is_verdict Limited old new (output, inr (inr (inr (inr (seed, many, asked, none)))), out, journal) read write = absurd (check_is_no_seq words seed many able.asked asked)
+  is_verdict Limited old new (output, inr (inr (inr (inr (inl (seed, many, asked, none))))), out, journal) read write = absurd (check_is_no_seq words seed many able.asked asked)
+  is_verdict Limited old new (output, inr (inr (inr (inr (inr (opts, asked, answers))))), out, journal) read write = absurd (check_is_no_cover words opts able.asked asked)
   is_verdict ReadFault old new writes read write = absurd (read refl)
   is_verdict WriteFault old new writes read write = absurd (write refl)
 
@@ -140,24 +149,66 @@ module _ (words : List (List ℕ)) (text : List ℕ) (able : IsProducible words 
   is_produced SomeZero old new (output, inr (inl (run, asked, answers)), out, journal) read write = absurd (run_is_no_seq words run able.seed able.count asked able.asked)
   is_produced SomeZero old new (output, inr (inr (inl (count, opts, asked, answers))), out, journal) read write = absurd (load_is_no_seq words count opts able.seed able.count asked able.asked)
   is_produced SomeZero old new (output, inr (inr (inr (inl (asked, answers)))), out, journal) read write = absurd (check_is_no_seq words able.seed able.count asked able.asked)
-  is_produced SomeZero old new (output, inr (inr (inr (inr (seed, many, asked, none)))), out, journal) read write = absurd none
+  is_produced SomeZero old new (output, inr (inr (inr (inr (inl (seed, many, asked, none))))), out, journal) read write = absurd none
+  is_produced SomeZero old new (output, inr (inr (inr (inr (inr (opts, asked, answers))))), out, journal) read write = absurd (seq_is_no_cover words able.seed able.count opts able.asked asked)
   is_produced Usage old new (output, inl (e, none, is), out, journal) read write = absurd (none.no_seq able.seed able.count able.asked)
   is_produced Usage old new (output, inr (inl (run, asked, none)), out, journal) read write = absurd none
   is_produced Usage old new (output, inr (inr (inl (count, opts, asked, none))), out, journal) read write = absurd none
   is_produced Usage old new (output, inr (inr (inr (inl (asked, none)))), out, journal) read write = absurd none
-  is_produced Usage old new (output, inr (inr (inr (inr (seed, many, asked, none)))), out, journal) read write = absurd none
+  is_produced Usage old new (output, inr (inr (inr (inr (inl (seed, many, asked, none))))), out, journal) read write = absurd none
+  is_produced Usage old new (output, inr (inr (inr (inr (inr (opts, asked, none))))), out, journal) read write = absurd none
   is_produced SomeGivenUp old new (output, inl (e, none, is), out, journal) read write = absurd (given_no_usage e)
   is_produced SomeGivenUp old new (output, inr (inl (run, asked, answers)), out, journal) read write = absurd (run_is_no_seq words run able.seed able.count asked able.asked)
   is_produced SomeGivenUp old new (output, inr (inr (inl (count, opts, asked, answers))), out, journal) read write = absurd (load_is_no_seq words count opts able.seed able.count asked able.asked)
   is_produced SomeGivenUp old new (output, inr (inr (inr (inl (asked, none)))), out, journal) read write = absurd none
-  is_produced SomeGivenUp old new (output, inr (inr (inr (inr (seed, many, asked, none)))), out, journal) read write = absurd none
+  is_produced SomeGivenUp old new (output, inr (inr (inr (inr (inl (seed, many, asked, none))))), out, journal) read write = absurd none
+  is_produced SomeGivenUp old new (output, inr (inr (inr (inr (inr (opts, asked, answers))))), out, journal) read write = absurd (seq_is_no_cover words able.seed able.count opts able.asked asked)
   is_produced Refused old new (output, inl (e, none, is), out, journal) read write = absurd (refused_no_usage e)
   is_produced Refused old new (output, inr (inl (run, asked, refuses)), out, journal) read write = absurd (run_is_no_seq words run able.seed able.count asked able.asked)
   is_produced Refused old new (output, inr (inr (inl (count, opts, asked, refuses))), out, journal) read write = absurd (load_is_no_seq words count opts able.seed able.count asked able.asked)
   is_produced Refused old new (output, inr (inr (inr (inl (asked, refuses)))), out, journal) read write = absurd (check_is_no_seq words able.seed able.count asked able.asked)
-  is_produced Refused old new (output, inr (inr (inr (inr (seed, many, asked, refuses)))), out, journal) read write = absurd (seq_not_refused output refuses)
+  is_produced Refused old new (output, inr (inr (inr (inr (inl (seed, many, asked, refuses))))), out, journal) read write = absurd (seq_not_refused output refuses)
+  is_produced Refused old new (output, inr (inr (inr (inr (inr (opts, asked, refuses))))), out, journal) read write = absurd (seq_is_no_cover words able.seed able.count opts able.asked asked)
   is_produced ReadFault old new writes read write = absurd (read refl)
   is_produced WriteFault old new writes read write = absurd (write refl)
 
 pub lines_are_complete : LinesAreComplete
 lines_are_complete words text status old new able writes read write = is_produced words text able status old new writes read write
+
+-- ---- coverage
+
+same_options : (words : List (List ℕ)) (a b : Options) → IsCover words a → IsCover words b → a ≡ b
+same_options words a b h k = h.options ∙ sym k.options
+
+module _ (words : List (List ℕ)) (text : List ℕ) (able : IsCoverable words text) where
+  cover_not_limited : (opts : Options) (output : Output) → IsCover words opts → Covers opts text ending.Limited output → ⊥
+  cover_not_limited opts output asked covers = able.unlimited output (subst (λ (o : Options). Covers o text ending.Limited output) (same_options words opts able.opts asked able.asked) covers)
+
+  is_covered : (status : Status) (old new : Sinks) → Writes words text status old new → (status ≡ ReadFault → ⊥) → (status ≡ WriteFault → ⊥) → IsAnswered status
+  is_covered AllOne old new writes read write = inl refl
+  is_covered SomeZero old new writes read write = inr (inl refl)
+  is_covered SomeGivenUp old new writes read write = inr (inr (inl refl))
+  is_covered NoMemory old new writes read write = inr (inr (inr refl))
+  is_covered Usage old new (output, inl (e, none, is), out, journal) read write = absurd (none.no_cover able.opts able.asked)
+  is_covered Usage old new (output, inr (inl (run, asked, none)), out, journal) read write = absurd none
+  is_covered Usage old new (output, inr (inr (inl (count, opts, asked, none))), out, journal) read write = absurd none
+  is_covered Usage old new (output, inr (inr (inr (inl (asked, none)))), out, journal) read write = absurd none
+  is_covered Usage old new (output, inr (inr (inr (inr (inl (seed, many, asked, none))))), out, journal) read write = absurd none
+  is_covered Usage old new (output, inr (inr (inr (inr (inr (opts, asked, none))))), out, journal) read write = absurd none
+  is_covered Refused old new (output, inl (e, none, is), out, journal) read write = absurd (refused_no_usage e)
+  is_covered Refused old new (output, inr (inl (run, asked, refuses)), out, journal) read write = absurd (run_is_no_cover words run able.opts asked able.asked)
+  is_covered Refused old new (output, inr (inr (inl (count, opts, asked, refuses))), out, journal) read write = absurd (load_is_no_cover words count opts able.opts asked able.asked)
+  is_covered Refused old new (output, inr (inr (inr (inl (asked, refuses)))), out, journal) read write = absurd (check_is_no_cover words able.opts asked able.asked)
+  is_covered Refused old new (output, inr (inr (inr (inr (inl (seed, many, asked, refuses))))), out, journal) read write = absurd (seq_is_no_cover words seed many able.opts asked able.asked)
+  is_covered Refused old new (output, inr (inr (inr (inr (inr (opts, asked, refuses))))), out, journal) read write = absurd (able.accepted output refuses)
+  is_covered Limited old new (output, inl (e, none, is), out, journal) read write = absurd (limited_no_usage e)
+  is_covered Limited old new (output, inr (inl (run, asked, answers)), out, journal) read write = absurd (run_is_no_cover words run able.opts asked able.asked)
+  is_covered Limited old new (output, inr (inr (inl (count, opts, asked, answers))), out, journal) read write = absurd (load_is_no_cover words count opts able.opts asked able.asked)
+  is_covered Limited old new (output, inr (inr (inr (inl (asked, none)))), out, journal) read write = absurd none
+  is_covered Limited old new (output, inr (inr (inr (inr (inl (seed, many, asked, answers))))), out, journal) read write = absurd (seq_is_no_cover words seed many able.opts asked able.asked)
+  is_covered Limited old new (output, inr (inr (inr (inr (inr (opts, asked, answers))))), out, journal) read write = absurd (cover_not_limited opts output asked answers.1)
+  is_covered ReadFault old new writes read write = absurd (read refl)
+  is_covered WriteFault old new writes read write = absurd (write refl)
+
+pub coverage_is_complete : CoverageIsComplete
+coverage_is_complete words text status old new able writes read write = is_covered words text able status old new writes read write

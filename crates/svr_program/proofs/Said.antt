@@ -6,7 +6,7 @@ use Rattle.svr_edge.specs.Known.{AppendsFront}
 use Rattle.svr_phase.specs.declared.options.Options.{Options}
 use Rattle.svr_run.specs.Telling.{Sinks}
 use Rattle.svr_words.specs.declared.request.Run.{Run}
-use Rattle.svr_words.specs.Words.{IsCommand, IsLoad, IsCheck, IsSeq, AskNothing, usage_text}
+use Rattle.svr_words.specs.Words.{IsCommand, IsLoad, IsCheck, IsSeq, IsCover, AskNothing, usage_text}
 use Rattle.svr_status.specs.Writing.{prints, Writing}
 use Rattle.svr_status.specs.declared.status.Status.{Status}
 use Rattle.svr_status.specs.declared.status.Status.TheVariants.{Usage, WriteFault}
@@ -16,6 +16,7 @@ use Rattle.svr_answer.specs.Answers.{Answers, MayTell, LoadAnswers, LoadMayTell}
 use Rattle.svr_answer.specs.Parts.{LoadAnswered}
 use Rattle.svr_command_check.specs.Answers.{CheckAnswers, CheckMayTell}
 use Rattle.svr_command_seq.specs.Answers.{SeqAnswers, SeqMayTell}
+use Rattle.svr_command_cover.specs.Answers.{CoverAnswers, CoverMayTell}
 use Rattle.svr_program.specs.Outcome.{Says, MaySay, Writes}
 
 -- an answer is what the program says with words that are a command
@@ -37,7 +38,12 @@ check_is_said words text status old new asked writing =
 pub seq_is_said : (words : List (List ℕ)) (seed count : ℕ) (text : List ℕ) (status : Status) (old new : Sinks) → IsSeq words seed count
     → Writing (SeqAnswers seed count text) (SeqMayTell seed count text) status old new → Writes words text status old new
 seq_is_said words seed count text status old new asked writing =
-    mapped (SeqAnswers seed count text) (Says words text) (SeqMayTell seed count text) (MaySay words text) (λ s o h. inr (inr (inr (inr (seed, count, asked, h))))) (λ o h. inr (inr (inr (inr (seed, count, asked, h))))) status old new writing
+    mapped (SeqAnswers seed count text) (Says words text) (SeqMayTell seed count text) (MaySay words text) (λ s o h. inr (inr (inr (inr (inl (seed, count, asked, h)))))) (λ o h. inr (inr (inr (inr (inl (seed, count, asked, h)))))) status old new writing
+
+pub cover_is_said : (words : List (List ℕ)) (opts : Options) (text : List ℕ) (status : Status) (old new : Sinks) → IsCover words opts
+    → Writing (CoverAnswers opts text) (CoverMayTell opts text) status old new → Writes words text status old new
+cover_is_said words opts text status old new asked writing =
+    mapped (CoverAnswers opts text) (Says words text) (CoverMayTell opts text) (MaySay words text) (λ s o h. inr (inr (inr (inr (inr (opts, asked, h)))))) (λ o h. inr (inr (inr (inr (inr (opts, asked, h)))))) status old new writing
 
 -- over a source that tells its text
 pub source_is_said : (o : Option (List ℕ)) (words : List (List ℕ)) (run : Run) (status : Status) (old new : Sinks) → IsCommand words run
@@ -59,6 +65,11 @@ pub lines_are_said : (o : Option (List ℕ)) (words : List (List ℕ)) (seed cou
     → IfSome o (λ text. Writing (SeqAnswers seed count text) (SeqMayTell seed count text) status old new) → IfSome o (λ text. Writes words text status old new)
 lines_are_said None words seed count status old new asked writing = tt
 lines_are_said (Some text) words seed count status old new asked writing = seq_is_said words seed count text status old new asked writing
+
+pub coverage_is_said : (o : Option (List ℕ)) (words : List (List ℕ)) (opts : Options) (status : Status) (old new : Sinks) → IsCover words opts
+    → IfSome o (λ text. Writing (CoverAnswers opts text) (CoverMayTell opts text) status old new) → IfSome o (λ text. Writes words text status old new)
+coverage_is_said None words opts status old new asked writing = tt
+coverage_is_said (Some text) words opts status old new asked writing = cover_is_said words opts text status old new asked writing
 
 -- ---- the usage
 

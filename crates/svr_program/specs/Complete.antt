@@ -1,7 +1,8 @@
--- Which scripts, derivations and texts of `randsequence` are answered.
+-- Which scripts, derivations, texts of `randsequence` and texts with cover groups are answered.
 use Rattle.std.specs.Prelude.{◌≡◌, ◌≤◌, ◌⊎◌, ℕ, List, length}
 use Rattle.svr_limits.specs.declared.limit.TheConstants.{TEXT_LIMIT}
 use Rattle.svr_typed.specs.StmtTerm.{DesignTerm}
+use Rattle.svr_phase.specs.declared.options.Options.{Options}
 use Rattle.svr_script.specs.Ending as ending
 use Rattle.svr_script.specs.Ending.{Output}
 use Rattle.svr_run_budget_laws.specs.Runs.{CallsAskLittle}
@@ -13,9 +14,10 @@ use Rattle.svr_token.specs.declared.token.Token.{Token}
 use Rattle.svr_seq.specs.SeqTerm.{SeqTerm}
 use Rattle.svr_seq_lines.specs.Said.{HasSeq}
 use Rattle.svr_words.specs.declared.request.Run.{Run}
-use Rattle.svr_words.specs.Words.{IsCommand, IsCheck, IsSeq}
+use Rattle.svr_words.specs.Words.{IsCommand, IsCheck, IsSeq, IsCover}
 use Rattle.svr_refused.specs.Texts.{HasDesign, IsRefused}
 use Rattle.svr_answer.specs.Ends.{Ends}
+use Rattle.svr_command_cover.specs.Answers.{Covers, RefusesCover}
 use Rattle.svr_status.specs.declared.status.Status.{Status}
 use Rattle.svr_status.specs.declared.status.Status.TheVariants.{AllOne, SomeZero, SomeGivenUp, Limited, ReadFault, WriteFault, NoMemory}
 use Rattle.svr_program.specs.Outcome.{Writes}
@@ -91,3 +93,17 @@ IsProduced status = (status ≡ AllOne) ⊎ ((status ≡ Limited) ⊎ (status �
 abbrev pub LinesAreComplete : Type 0
 LinesAreComplete = (words : List (List ℕ)) (text : List ℕ) (status : Status) (old new : Sinks) → IsProducible words text → Writes words text status old new
     → (status ≡ ReadFault → ⊥) → (status ≡ WriteFault → ⊥) → IsProduced status
+
+-- ---- which texts have a report
+
+-- The words ask for coverage, nothing refuses the text, and no run of its script meets a limit.
+pub record IsCoverable (words : List (List ℕ)) (text : List ℕ) : Type 0 where
+  pub opts : Options
+  pub asked : IsCover words opts
+  pub accepted : (output : Output) → RefusesCover text output → ⊥
+  pub unlimited : (output : Output) → Covers opts text ending.Limited output → ⊥
+
+-- where no source or sink failed, each call of such a text was answered or given up and its report is written, or memory was wanting
+abbrev pub CoverageIsComplete : Type 0
+CoverageIsComplete = (words : List (List ℕ)) (text : List ℕ) (status : Status) (old new : Sinks) → IsCoverable words text → Writes words text status old new
+    → (status ≡ ReadFault → ⊥) → (status ≡ WriteFault → ⊥) → IsAnswered status

@@ -6,10 +6,11 @@ use Rattle.svr_phase.specs.declared.options.Options.{Options}
 use Rattle.svr_script.specs.Ending.{Output}
 use Rattle.svr_run.specs.Telling.{Sinks}
 use Rattle.svr_words.specs.declared.request.Run.{Run}
-use Rattle.svr_words.specs.Words.{IsCommand, IsLoad, IsCheck, IsSeq, AskNothing, usage_text}
+use Rattle.svr_words.specs.Words.{IsCommand, IsLoad, IsCheck, IsSeq, IsCover, AskNothing, usage_text}
 use Rattle.svr_answer.specs.Answers.{Answers, MayTell, LoadAnswers, LoadMayTell}
 use Rattle.svr_command_check.specs.Answers.{CheckAnswers, CheckMayTell}
 use Rattle.svr_command_seq.specs.Answers.{SeqAnswers, SeqMayTell}
+use Rattle.svr_command_cover.specs.Answers.{CoverAnswers, CoverMayTell}
 use Rattle.svr_status.specs.Writing.{prints, Writing}
 use Rattle.svr_status.specs.declared.status.Status.{Status}
 use Rattle.svr_status.specs.declared.status.Status.TheVariants.{Usage}
@@ -23,7 +24,8 @@ Says words text status output =
     ⊎ (((run : Run) × IsCommand words run × Answers run text status output)
     ⊎ (((count : ℕ) × (opts : Options) × IsLoad words count opts × LoadAnswers count opts status output)
     ⊎ ((IsCheck words × CheckAnswers text status output)
-    ⊎ ((seed : ℕ) × (count : ℕ) × IsSeq words seed count × SeqAnswers seed count text status output))))
+    ⊎ (((seed : ℕ) × (count : ℕ) × IsSeq words seed count × SeqAnswers seed count text status output)
+    ⊎ ((opts : Options) × IsCover words opts × CoverAnswers opts text status output)))))
 
 abbrev pub MaySay : List (List ℕ) → List ℕ → Output → Type 0
 MaySay words text output =
@@ -31,7 +33,8 @@ MaySay words text output =
     ⊎ (((run : Run) × IsCommand words run × MayTell run text output)
     ⊎ (((count : ℕ) × (opts : Options) × IsLoad words count opts × LoadMayTell count opts output)
     ⊎ ((IsCheck words × CheckMayTell text output)
-    ⊎ ((seed : ℕ) × (count : ℕ) × IsSeq words seed count × SeqMayTell seed count text output))))
+    ⊎ (((seed : ℕ) × (count : ℕ) × IsSeq words seed count × SeqMayTell seed count text output)
+    ⊎ ((opts : Options) × IsCover words opts × CoverMayTell opts text output)))))
 
 -- ---- what is written
 
@@ -45,3 +48,4 @@ pub data Reads (words : List (List ℕ)) (limit : ℕ) : Type 0 where
   a_script : (run : Run) → IsCommand words run → limit ≡ TEXT_LIMIT → Reads words limit
   a_derivation : IsCheck words → limit ≡ MOST_TEXT → Reads words limit
   a_sequence : (seed count : ℕ) → IsSeq words seed count → limit ≡ TEXT_LIMIT → Reads words limit
+  a_coverage : (opts : Options) → IsCover words opts → limit ≡ TEXT_LIMIT → Reads words limit

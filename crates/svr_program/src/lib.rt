@@ -7,6 +7,7 @@ mod laws;
 mod top;
 
 pub use laws::{
-    checks_are_complete, lines_are_complete, runs_are_complete, small_runs_are_answered,
+    checks_are_complete, coverage_is_complete, lines_are_complete, runs_are_complete,
+    small_runs_are_answered,
 };
 pub use top::run;

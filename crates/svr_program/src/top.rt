@@ -9,6 +9,7 @@ ghost use Rattle.svr_program.specs.Outcome.{Writes, Reads};
 use std::alloc::{AllocError, Global};
 use svr_answer::{load, run_source};
 use svr_command_check::check_source;
+use svr_command_cover::cover_source;
 use svr_command_seq::seq_source;
 use svr_edge::{Sink, Source};
 use svr_status::{Status, finish};
@@ -16,7 +17,7 @@ use svr_words::{Request, USAGE, command};
 
 /// All that the program does.
 ///
-/// `words` are the words behind the program's name. The script, the derivation to be checked, or the `randsequence` is read from `src`; that of a load is made; all printed text goes to `out`, and the log of each question that was given up to `journal`. What a call tells is written before the next one is asked. The status is the one that the process is to end with.
+/// `words` are the words behind the program's name. The script, with the cover groups before it where coverage is asked for, the derivation to be checked, or the `randsequence` is read from `src`; that of a load is made; all printed text goes to `out`, and the log of each question that was given up to `journal`. What a call tells is written before the next one is asked. The status is the one that the process is to end with.
 pub fn run<S: Source, K: Sink, J: Sink>(
     alloc: Global,
     words: &[String],
@@ -53,5 +54,6 @@ pub fn run<S: Source, K: Sink, J: Sink>(
         Request::Load(asked) => load(alloc, asked, out, journal),
         Request::Check => check_source(alloc, src, out),
         Request::Seq(lines) => seq_source(alloc, lines.seed, lines.count, src, out),
+        Request::Cover(opts) => cover_source(alloc, opts, src, out, journal),
     }
 }

@@ -9,7 +9,7 @@ const SCRIPT: &[u8] =
 const LINES: &[u8] = b"#1 p 1 a=5\n#2 p 1 a=5\n#3 p 1 a=5\n";
 
 const USAGE: &[u8] =
-    b"usage: svrand run [--seed N] [--budget N] [--size-cap N] [--proofs] [--conflicts] [--lrat]\n       svrand load N [--seed N] [--budget N] [--size-cap N] [--proofs]\n       svrand check\n       svrand seq [--seed N] [--count N]\n";
+    b"usage: svrand run [--seed N] [--budget N] [--size-cap N] [--proofs] [--conflicts] [--lrat]\n       svrand load N [--seed N] [--budget N] [--size-cap N] [--proofs]\n       svrand check\n       svrand cover [--seed N] [--budget N] [--size-cap N] [--proofs]\n       svrand seq [--seed N] [--count N]\n";
 
 /// Words, and what a run with them ends with and prints.
 struct Words {
@@ -18,7 +18,7 @@ struct Words {
     written: &'static [u8],
 }
 
-const WORDS: [Words; 47] = [
+const WORDS: [Words; 13] = [
     Words {
         words: &["run"],
         status: Status::AllOne,
@@ -60,76 +60,6 @@ const WORDS: [Words; 47] = [
         status: Status::AllOne,
         written: LINES,
     },
-    Words {
-        words: &["run", "--lrat", "--lrat"],
-        status: Status::Usage,
-        written: USAGE,
-    },
-    Words {
-        words: &["run", "--conflicts=true"],
-        status: Status::Usage,
-        written: USAGE,
-    },
-    Words {
-        words: &["run", "--conflicts", "--conflicts"],
-        status: Status::Usage,
-        written: USAGE,
-    },
-    Words {
-        words: &["load", "1", "--conflicts"],
-        status: Status::Usage,
-        written: USAGE,
-    },
-    Words {
-        words: &["load", "1", "--lrat"],
-        status: Status::Usage,
-        written: USAGE,
-    },
-    Words {
-        words: &["check", "--lrat"],
-        status: Status::Usage,
-        written: USAGE,
-    },
-    Words {
-        words: &["seq", "--conflicts"],
-        status: Status::Usage,
-        written: USAGE,
-    },
-    Words {
-        words: &[],
-        status: Status::Usage,
-        written: USAGE,
-    },
-    Words {
-        words: &["--seed", "1"],
-        status: Status::Usage,
-        written: USAGE,
-    },
-    Words {
-        words: &["load"],
-        status: Status::Usage,
-        written: USAGE,
-    },
-    Words {
-        words: &["load", "0"],
-        status: Status::Usage,
-        written: USAGE,
-    },
-    Words {
-        words: &["load", "2001"],
-        status: Status::Usage,
-        written: USAGE,
-    },
-    Words {
-        words: &["load", "x"],
-        status: Status::Usage,
-        written: USAGE,
-    },
-    Words {
-        words: &["load", "1", "2"],
-        status: Status::Usage,
-        written: USAGE,
-    },
     // Loads. The source is not read, and `--proofs` prints nothing more.
     Words {
         words: &["load", "1"],
@@ -146,116 +76,70 @@ const WORDS: [Words; 47] = [
         status: Status::SomeZero,
         written: b"load 5 one 4 zero 1 gaveup 0\n",
     },
+    // Coverage has the options of a run, and none of its flags.
     Words {
-        words: &["run", "--seed"],
-        status: Status::Usage,
-        written: USAGE,
+        words: &["cover"],
+        status: Status::AllOne,
+        written: LINES,
     },
     Words {
-        words: &["run", "--seed", "x"],
-        status: Status::Usage,
-        written: USAGE,
+        words: &[
+            "cover",
+            "--proofs",
+            "--size-cap",
+            "2048",
+            "--budget",
+            "64",
+            "--seed=42",
+        ],
+        status: Status::AllOne,
+        written: LINES,
     },
-    Words {
-        words: &["run", "--seed", ""],
-        status: Status::Usage,
-        written: USAGE,
-    },
-    Words {
-        words: &["run", "--seed", "18446744073709551616"],
-        status: Status::Usage,
-        written: USAGE,
-    },
-    Words {
-        words: &["run", "--seed", "1", "--seed", "2"],
-        status: Status::Usage,
-        written: USAGE,
-    },
-    Words {
-        words: &["run", "--budget", "0"],
-        status: Status::Usage,
-        written: USAGE,
-    },
-    Words {
-        words: &["run", "--budget", "16777217"],
-        status: Status::Usage,
-        written: USAGE,
-    },
-    Words {
-        words: &["run", "--size-cap", "0"],
-        status: Status::Usage,
-        written: USAGE,
-    },
-    Words {
-        words: &["run", "--size-cap", "2049"],
-        status: Status::Usage,
-        written: USAGE,
-    },
-    Words {
-        words: &["run", "--proofs=true"],
-        status: Status::Usage,
-        written: USAGE,
-    },
-    Words {
-        words: &["run", "--help"],
-        status: Status::Usage,
-        written: USAGE,
-    },
-    Words {
-        words: &["run", "1"],
-        status: Status::Usage,
-        written: USAGE,
-    },
-    Words {
-        words: &["check", "1"],
-        status: Status::Usage,
-        written: USAGE,
-    },
-    Words {
-        words: &["check", "--seed", "1"],
-        status: Status::Usage,
-        written: USAGE,
-    },
-    Words {
-        words: &["check", "--help"],
-        status: Status::Usage,
-        written: USAGE,
-    },
-    Words {
-        words: &["seq", "1"],
-        status: Status::Usage,
-        written: USAGE,
-    },
-    Words {
-        words: &["seq", "--help"],
-        status: Status::Usage,
-        written: USAGE,
-    },
-    Words {
-        words: &["seq", "--count", "0"],
-        status: Status::Usage,
-        written: USAGE,
-    },
-    Words {
-        words: &["seq", "--count", "100001"],
-        status: Status::Usage,
-        written: USAGE,
-    },
-    Words {
-        words: &["seq", "--seed", "18446744073709551616"],
-        status: Status::Usage,
-        written: USAGE,
-    },
-    Words {
-        words: &["seq", "--count", "1", "--count", "2"],
-        status: Status::Usage,
-        written: USAGE,
-    },
-    Words {
-        words: &["seq", "--proofs"],
-        status: Status::Usage,
-        written: USAGE,
-    },
+];
+
+/// Words that ask for nothing.
+const NO_COMMAND: [&[&str]; 41] = [
+    &["run", "--lrat", "--lrat"],
+    &["run", "--conflicts=true"],
+    &["run", "--conflicts", "--conflicts"],
+    &["load", "1", "--conflicts"],
+    &["load", "1", "--lrat"],
+    &["check", "--lrat"],
+    &["seq", "--conflicts"],
+    &[],
+    &["--seed", "1"],
+    &["load"],
+    &["load", "0"],
+    &["load", "2001"],
+    &["load", "x"],
+    &["load", "1", "2"],
+    &["run", "--seed"],
+    &["run", "--seed", "x"],
+    &["run", "--seed", ""],
+    &["run", "--seed", "18446744073709551616"],
+    &["run", "--seed", "1", "--seed", "2"],
+    &["run", "--budget", "0"],
+    &["run", "--budget", "16777217"],
+    &["run", "--size-cap", "0"],
+    &["run", "--size-cap", "2049"],
+    &["run", "--proofs=true"],
+    &["run", "--help"],
+    &["run", "1"],
+    &["check", "1"],
+    &["check", "--seed", "1"],
+    &["check", "--help"],
+    &["seq", "1"],
+    &["seq", "--help"],
+    &["seq", "--count", "0"],
+    &["seq", "--count", "100001"],
+    &["seq", "--seed", "18446744073709551616"],
+    &["seq", "--count", "1", "--count", "2"],
+    &["seq", "--proofs"],
+    &["cover", "--conflicts"],
+    &["cover", "--lrat"],
+    &["cover", "1"],
+    &["cover", "--budget", "0"],
+    &["cover", "--seed", "1", "--seed", "2"],
 ];
 
 #[test]
@@ -266,6 +150,14 @@ fn words_ask_for_what_they_say(rt: HostRuntime) {
             says(rt.alloc(), &asked, row.status, row.written),
             "words {i}"
         );
+    }
+}
+
+#[test]
+fn words_that_ask_for_nothing_are_told_the_usage(rt: HostRuntime) {
+    for (i, words) in NO_COMMAND.iter().enumerate() {
+        let asked = plain(words, SCRIPT);
+        assert!(rt; says(rt.alloc(), &asked, Status::Usage, USAGE), "words {i}");
     }
 }
 

@@ -1,4 +1,4 @@
-//! The tests of the program: words with what they print, scripts, refusals, long texts, loads, checks and lines of `randsequence`, through `run` over a source and sinks in memory.
+//! The tests of the program: words with what they print, scripts, refusals, long texts, loads, checks, lines of `randsequence` and coverage, through `run` over a source and sinks in memory.
 //!
 //! They stand apart, over the library, so that it is proved once.
 #![tactic(auto)]
@@ -9,6 +9,8 @@ mod asking;
 mod checks;
 #[cfg(test)]
 mod commands;
+#[cfg(test)]
+mod coverage;
 #[cfg(test)]
 mod flags;
 #[cfg(test)]

@@ -5,7 +5,6 @@ use Rattle.std.specs.Fmt.{decimal}
 use denote.Ref.{Bor}
 use Rattle.svr_refusal.specs.declared.place.Place.{Place}
 use Rattle.svr_refusal.specs.declared.refusal.Refusal.{Refusal}
-use Rattle.svr_refusal.specs.declared.refusal.Refusal.TheVariants as refusal
 use Rattle.svr_refusal.specs.Numbers.{number_of}
 
 -- the parts of a text as the code holds them

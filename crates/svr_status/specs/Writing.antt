@@ -1,8 +1,8 @@
 -- What was written with a status, and how far a text was read.
-use Rattle.std.specs.Prelude.{◌≡◌, ◌≤◌, ◌<◌, ◌+◌, ◌⊎◌, ℕ, List, [], length, ⊤}
+use Rattle.std.specs.Prelude.{◌≡◌, ◌≤◌, ◌<◌, ◌+◌, ◌⊎◌, ℕ, List, [], length}
 use Rattle.std.specs.declared.option.Option.{Option}
 use Rattle.std.specs.Io.KnownBytes.{Appends, Keeps, IsAtEnd}
-use Rattle.svr_edge.specs.Known.{Takes, AppendsFront}
+use Rattle.svr_edge.specs.Known.{Takes, TakesUpTo, AppendsFront}
 use Rattle.svr_script.specs.Ending.{Output}
 use Rattle.svr_run.specs.Telling.{Sinks}
 use Rattle.svr_status.specs.declared.status.Status.{Status}
@@ -40,7 +40,7 @@ Writing Said May NoMemory old new = WritesNothing old new ⊎ WritesFront May ol
 
 -- ---- how far the text was read
 
--- How far a source was read: to its end, or one byte past the limit.
+-- How far a source was read: to its end, or one byte past the limit; and no further where it failed or memory was wanting.
 abbrev pub HasRead : ℕ → Status → Option (List ℕ) → Option (List ℕ) → Type 0
 HasRead limit AllOne old new = IsAtEnd new
 HasRead limit SomeZero old new = IsAtEnd new
@@ -48,9 +48,9 @@ HasRead limit SomeGivenUp old new = IsAtEnd new
 HasRead limit Limited old new = IsAtEnd new
 HasRead limit Refused old new = IsAtEnd new ⊎ Takes old new (limit + 1)
 HasRead limit Usage old new = Keeps old new
-HasRead limit ReadFault old new = ⊤
-HasRead limit WriteFault old new = ⊤
-HasRead limit NoMemory old new = ⊤
+HasRead limit ReadFault old new = TakesUpTo old new limit
+HasRead limit WriteFault old new = IsAtEnd new ⊎ Takes old new (limit + 1)
+HasRead limit NoMemory old new = TakesUpTo old new (limit + 1)
 
 -- a text that is within the limit was read to its end, and of a longer one, one byte past the limit
 abbrev pub HasReadText : ℕ → List ℕ → Status → Option (List ℕ) → Option (List ℕ) → Type 0

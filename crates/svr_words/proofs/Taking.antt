@@ -1,5 +1,5 @@
 -- What `clap` takes for the options of a run, and how it is read.
-use Rattle.std.proofs.Common.{zero, suc, ◌≡◌, ◌⊎◌, ◌∙◌, ◌++◌, ◌&&◌, ◌||◌, ◌<◌, ◌≤◌, ◌^◌, ℕ, Bool, true, false, not, List, [], ◌∷◌, length, is_some, map, Option, Some, None, refl, sym, ap, subst, inl, inr, arith, codes, option_map, slice_get, get_or, unwrap_or, string_bytes}
+use Rattle.std.proofs.Common.{zero, suc, ◌≡◌, ◌⊎◌, ◌∙◌, ◌++◌, ◌&&◌, ◌||◌, ◌<◌, ◌≤◌, ◌^◌, ℕ, Bool, true, false, not, List, [], ◌∷◌, length, is_some, map, drop, Option, Some, None, refl, sym, ap, subst, inl, inr, arith, codes, option_map, slice_get, get_or, unwrap_or, string_bytes}
 use Rattle.std.specs.Prelude.{Ok, Err, Result, IfOk, MatchResult, option_and_then}
 use Rattle.std.proofs.lemmas.Bool.{false≢true, cases_lt}
 use Rattle.std.specs.List.{All, Any, slice_index_or, list_all}
@@ -37,12 +37,12 @@ use Rattle.clap.proofs.WalkLemmas.{one_text-rows}
 use Rattle.clap.proofs.OnLiterals.{clap_on_literals}
 use Rattle.svr_phase.specs.declared.options.Options.{Options}
 use Rattle.svr_words.specs.declared.request.Run.{Run}
-use Rattle.svr_words.specs.Words.{option, flag, run_command, class_count, load_command, check_command, seq_command, number_or, is_set, options_of, run_of, IsCommand, IsLoad, IsCheck, IsSeq, AskNothing}
+use Rattle.svr_words.specs.Words.{option, flag, run_command, class_count, load_command, check_command, seq_command, cover_command, number_or, is_set, options_of, run_of, IsCommand, IsLoad, IsCheck, IsSeq, IsCover, AskNothing}
 use Rattle.svr_words.specs.Taken.{IsNumber, IsTruth, AreTaken, RunIsTaken, LoadIsTaken, SeqIsTaken}
 
 -- ---- the command
 
--- the options of both commands, with what stands behind them
+-- the options of `run`, `load` and `cover`, with what stands behind them
 abbrev with_rest : List Rule → List Rule
 with_rest rest =
     option (codes "seed") (Unsigned 0 18446744073709551615)
@@ -85,6 +85,9 @@ check_is_read = record { is_free = refl; is_simple = refl; is_plain = refl; have
 
 seq_is_read : IsRead seq_command
 seq_is_read = record { is_free = refl; is_simple = refl; is_plain = refl; have = refl; simple = refl }
+
+cover_is_read : IsRead cover_command
+cover_is_read = record { is_free = refl; is_simple = refl; is_plain = refl; have = refl; simple = refl }
 
 both : (a b : Bool) → (a && b) ≡ true → (a ≡ true) × (b ≡ true)
 both true true e = (refl, refl)
@@ -365,6 +368,10 @@ load_is_taken c m is p = record {
     with_rules : (text : Text) → Took (map rule_of (args_of c)) (codes "N") text → Took (with_rest (class_count ∷ [])) (codes "N") text
     with_rules text t = subst (λ (rs : List Rule). Took rs (codes "N") text) (ap (λ (a : App). a.top.rules) is) t
 
+pub cover_is_taken : (c : Command) (m : ArgMatches) → app_of c ≡ cover_command → IsParsedFrom c m → AreTaken (found_of m)
+cover_is_taken c m is p =
+    options_are_taken cover_command [] c m cover_is_read refl (record { seed = λ P none. none; budget = λ P none. none; size_cap = λ P none. none; proofs = λ P none. none }) is p
+
 -- the options of lines
 abbrev seq_rules : List Rule
 seq_rules = option (codes "seed") (Unsigned 0 18446744073709551615) ∷ option (codes "count") (Unsigned 1 100000) ∷ []
@@ -518,6 +525,19 @@ pub seq_not_asked : (words : List Text) (c : Command) (e : Error) (r : Result Ar
     → (seed count : ℕ) → IsSeq words seed count → ⊥
 seq_not_asked words c e r is err kinds other seed count seq = failed_words seq_command words c e r seq_is_read is err kinds other seq.taken
 
+pub cover_asked : (words : List Text) (c : Command) (m : ArgMatches) (r : Result ArgMatches Error) (opts : Options)
+    → slice_get words 0 ≡ Some (codes "cover") → app_of c ≡ cover_command → r ≡ Ok m
+    → (is_simple_and_free (app_of c) ≡ true → FailsBy (fault_of (app_of c) words) r) → IfOk r (HasMatchesOf (app_of c) words)
+    → opts ≡ options_of (rows_of (found_of m)) → IsCover words opts
+cover_asked words c m r opts first is ok kinds matches read =
+    let h : (fault_of cover_command words ≡ []) × (rows_of (found_of m) ≡ matches_of cover_command words) = parsed_words cover_command words c m r cover_is_read is ok kinds matches in
+    record { named = first; taken = h.0; options = read ∙ ap options_of h.1 }
+
+pub cover_not_asked : (words : List Text) (c : Command) (e : Error) (r : Result ArgMatches Error) → app_of c ≡ cover_command → r ≡ Err e
+    → (is_simple_and_free (app_of c) ≡ true → FailsBy (fault_of (app_of c) words) r) → (kind_of e ≡ OutOfMemory → ⊥)
+    → (opts : Options) → IsCover words opts → ⊥
+cover_not_asked words c e r is err kinds other opts cover = failed_words cover_command words c e r cover_is_read is err kinds other cover.taken
+
 -- ---- the first word
 
 -- no word names two commands
@@ -542,6 +562,19 @@ load_or_seq e = differ (codes "load") (codes "seq") 108 115 refl refl (inl (omeg
 check_or_seq : codes "check" ≡ codes "seq" → ⊥
 check_or_seq e = differ (codes "check") (codes "seq") 99 115 refl refl (inl (omega arith)) e
 
+run_or_cover : codes "run" ≡ codes "cover" → ⊥
+run_or_cover e = differ (codes "run") (codes "cover") 114 99 refl refl (inr (omega arith)) e
+
+load_or_cover : codes "load" ≡ codes "cover" → ⊥
+load_or_cover e = differ (codes "load") (codes "cover") 108 99 refl refl (inr (omega arith)) e
+
+-- both begin with a `c`
+check_or_cover : codes "check" ≡ codes "cover" → ⊥
+check_or_cover e = differ (drop 1 (codes "check")) (drop 1 (codes "cover")) 104 111 refl refl (inl (omega arith)) (ap (λ (t : Text). drop 1 t) e)
+
+seq_or_cover : codes "seq" ≡ codes "cover" → ⊥
+seq_or_cover e = differ (codes "seq") (codes "cover") 115 99 refl refl (inr (omega arith)) e
+
 pub run_is_no_load : (words : List Text) (a : Run) (count : ℕ) (b : Options) → IsCommand words a → IsLoad words count b → ⊥
 run_is_no_load words a count b run load = names_differ (codes "run") (codes "load") (slice_get words 0) run_or_load run.named load.named
 
@@ -560,12 +593,25 @@ load_is_no_seq words n opts seed count load seq = names_differ (codes "load") (c
 pub check_is_no_seq : (words : List Text) (seed count : ℕ) → IsCheck words → IsSeq words seed count → ⊥
 check_is_no_seq words seed count check seq = names_differ (codes "check") (codes "seq") (slice_get words 0) check_or_seq check.named seq.named
 
+pub run_is_no_cover : (words : List Text) (asked : Run) (opts : Options) → IsCommand words asked → IsCover words opts → ⊥
+run_is_no_cover words asked opts run cover = names_differ (codes "run") (codes "cover") (slice_get words 0) run_or_cover run.named cover.named
+
+pub load_is_no_cover : (words : List Text) (n : ℕ) (opts wanted : Options) → IsLoad words n opts → IsCover words wanted → ⊥
+load_is_no_cover words n opts wanted load cover = names_differ (codes "load") (codes "cover") (slice_get words 0) load_or_cover load.named cover.named
+
+pub check_is_no_cover : (words : List Text) (opts : Options) → IsCheck words → IsCover words opts → ⊥
+check_is_no_cover words opts check cover = names_differ (codes "check") (codes "cover") (slice_get words 0) check_or_cover check.named cover.named
+
+pub seq_is_no_cover : (words : List Text) (seed count : ℕ) (opts : Options) → IsSeq words seed count → IsCover words opts → ⊥
+seq_is_no_cover words seed count opts seq cover = names_differ (codes "seq") (codes "cover") (slice_get words 0) seq_or_cover seq.named cover.named
+
 pub nothing_for_run : (words : List Text) → slice_get words 0 ≡ Some (codes "run") → ((run : Run) → IsCommand words run → ⊥) → AskNothing words
 nothing_for_run words first none = record {
   no_run = none;
   no_load = λ count opts load. names_differ (codes "run") (codes "load") (slice_get words 0) run_or_load first load.named;
   no_check = λ check. names_differ (codes "run") (codes "check") (slice_get words 0) run_or_check first check.named;
   no_seq = λ seed count seq. names_differ (codes "run") (codes "seq") (slice_get words 0) run_or_seq first seq.named;
+  no_cover = λ opts cover. names_differ (codes "run") (codes "cover") (slice_get words 0) run_or_cover first cover.named;
 }
 
 pub nothing_for_load : (words : List Text) → slice_get words 0 ≡ Some (codes "load") → ((count : ℕ) (opts : Options) → IsLoad words count opts → ⊥) → AskNothing words
@@ -574,6 +620,7 @@ nothing_for_load words first none = record {
   no_load = none;
   no_check = λ check. names_differ (codes "load") (codes "check") (slice_get words 0) load_or_check first check.named;
   no_seq = λ seed count seq. names_differ (codes "load") (codes "seq") (slice_get words 0) load_or_seq first seq.named;
+  no_cover = λ opts cover. names_differ (codes "load") (codes "cover") (slice_get words 0) load_or_cover first cover.named;
 }
 
 pub nothing_for_check : (words : List Text) → slice_get words 0 ≡ Some (codes "check") → (IsCheck words → ⊥) → AskNothing words
@@ -582,6 +629,7 @@ nothing_for_check words first none = record {
   no_load = λ count opts load. names_differ (codes "load") (codes "check") (slice_get words 0) load_or_check load.named first;
   no_check = none;
   no_seq = λ seed count seq. names_differ (codes "check") (codes "seq") (slice_get words 0) check_or_seq first seq.named;
+  no_cover = λ opts cover. names_differ (codes "check") (codes "cover") (slice_get words 0) check_or_cover first cover.named;
 }
 
 pub nothing_for_seq : (words : List Text) → slice_get words 0 ≡ Some (codes "seq") → ((seed count : ℕ) → IsSeq words seed count → ⊥) → AskNothing words
@@ -590,14 +638,25 @@ nothing_for_seq words first none = record {
   no_load = λ count opts load. names_differ (codes "load") (codes "seq") (slice_get words 0) load_or_seq load.named first;
   no_check = λ check. names_differ (codes "check") (codes "seq") (slice_get words 0) check_or_seq check.named first;
   no_seq = none;
+  no_cover = λ opts cover. names_differ (codes "seq") (codes "cover") (slice_get words 0) seq_or_cover first cover.named;
 }
 
-pub nothing_for_other : (words : List Text) → (slice_get words 0 ≡ Some (codes "run") → ⊥) → (slice_get words 0 ≡ Some (codes "load") → ⊥) → (slice_get words 0 ≡ Some (codes "check") → ⊥) → (slice_get words 0 ≡ Some (codes "seq") → ⊥) → AskNothing words
-nothing_for_other words no_run no_load no_check no_seq = record {
+pub nothing_for_cover : (words : List Text) → slice_get words 0 ≡ Some (codes "cover") → ((opts : Options) → IsCover words opts → ⊥) → AskNothing words
+nothing_for_cover words first none = record {
+  no_run = λ asked run. names_differ (codes "run") (codes "cover") (slice_get words 0) run_or_cover run.named first;
+  no_load = λ count opts load. names_differ (codes "load") (codes "cover") (slice_get words 0) load_or_cover load.named first;
+  no_check = λ check. names_differ (codes "check") (codes "cover") (slice_get words 0) check_or_cover check.named first;
+  no_seq = λ seed count seq. names_differ (codes "seq") (codes "cover") (slice_get words 0) seq_or_cover seq.named first;
+  no_cover = none;
+}
+
+pub nothing_for_other : (words : List Text) → (slice_get words 0 ≡ Some (codes "run") → ⊥) → (slice_get words 0 ≡ Some (codes "load") → ⊥) → (slice_get words 0 ≡ Some (codes "check") → ⊥) → (slice_get words 0 ≡ Some (codes "seq") → ⊥) → (slice_get words 0 ≡ Some (codes "cover") → ⊥) → AskNothing words
+nothing_for_other words no_run no_load no_check no_seq no_cover = record {
   no_run = λ asked run. no_run run.named;
   no_load = λ count opts load. no_load load.named;
   no_check = λ check. no_check check.named;
   no_seq = λ seed count seq. no_seq seq.named;
+  no_cover = λ opts cover. no_cover cover.named;
 }
 
 pub head_is : {A B : Type 0} (f : A → B) (xs : List A) (x : A) → 1 ≤ length xs → x ≡ get_or xs 0 x → slice_get (map f xs) 0 ≡ Some (f x)

@@ -5,8 +5,9 @@ use Rattle.std.specs.Str.Parse.{IsNumeral, digits_value, without_leading_plus}
 use Rattle.clap.specs.Values.{IsUnsignedIn}
 use Rattle.clap.specs.Matches.{one_text}
 use Rattle.clap.specs.declared.parser.matches.Found.{Found}
+use Rattle.svr_limits.specs.declared.limit.TheConstants.{BUDGET_LIMIT, ELEMENT_LIMIT}
 use Rattle.svr_phase.specs.declared.options.Options.{Options}
-use Rattle.svr_words.specs.Words.{IsCommand, IsLoad, IsCheck, IsSeq}
+use Rattle.svr_words.specs.Words.{IsCommand, IsLoad, IsCheck, IsSeq, IsCover}
 use Rattle.svr_words.specs.declared.request.Request.{Request}
 use Rattle.svr_words.specs.declared.request.Request.TheVariants as request
 
@@ -20,13 +21,13 @@ IsTruth f name = (text : List ℕ) → one_text f name ≡ Some text → (bytes_
 
 pub record AreTaken (f : Found) : Type 0 where
   pub seed : IsNumber f (codes "seed") 0 18446744073709551615
-  pub budget : IsNumber f (codes "budget") 1 16777216
-  pub size_cap : IsNumber f (codes "size-cap") 1 2048
+  pub budget : IsNumber f (codes "budget") 1 BUDGET_LIMIT
+  pub size_cap : IsNumber f (codes "size-cap") 1 ELEMENT_LIMIT
   pub proofs : IsTruth f (codes "proofs")
 
 -- a question may take some step, some array may have an element, and none passes the limit of arrays
 abbrev pub AreInRange : Options → Type 0
-AreInRange opts = (1 ≤ opts.budget) × (1 ≤ opts.size_cap) × (opts.size_cap ≤ 2048)
+AreInRange opts = (1 ≤ opts.budget) × (1 ≤ opts.size_cap) × (opts.size_cap ≤ ELEMENT_LIMIT)
 
 -- what was taken for a run
 pub record RunIsTaken (f : Found) : Type 0 where
@@ -50,3 +51,4 @@ Asks words (request.Run run) = IsCommand words run × AreInRange run.opts
 Asks words (request.Load load) = IsLoad words load.count load.opts × (load.count ≤ 2000) × AreInRange load.opts
 Asks words request.Check = IsCheck words
 Asks words (request.Seq lines) = IsSeq words lines.seed lines.count
+Asks words (request.Cover opts) = IsCover words opts × AreInRange opts

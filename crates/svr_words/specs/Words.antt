@@ -8,6 +8,7 @@ use Rattle.clap.specs.Faults.{fault_of}
 use Rattle.clap.specs.declared.builder.action.ArgAction.TheVariants.{Set, SetTrue}
 use Rattle.clap.specs.declared.builder.value_parser.ValueParser.{ValueParser}
 use Rattle.clap.specs.declared.builder.value_parser.ValueParser.TheVariants.{Unsigned, Bool as Truth}
+use Rattle.svr_limits.specs.declared.limit.TheConstants.{BUDGET_LIMIT, ELEMENT_LIMIT}
 use Rattle.svr_phase.specs.declared.options.Options.{Options}
 use Rattle.svr_words.specs.declared.request.Run.{Run}
 
@@ -26,8 +27,8 @@ abbrev pub with_options : Text → App
 with_options name =
     with_rule (with_rule (with_rule (with_rule (plain_command name)
     (option (codes "seed") (Unsigned 0 18446744073709551615)))
-    (option (codes "budget") (Unsigned 1 16777216)))
-    (option (codes "size-cap") (Unsigned 1 2048)))
+    (option (codes "budget") (Unsigned 1 BUDGET_LIMIT)))
+    (option (codes "size-cap") (Unsigned 1 ELEMENT_LIMIT)))
     (flag (codes "proofs"))
 
 -- a run tells more beside its lines by two flags that it alone has
@@ -44,6 +45,10 @@ seq_command =
     with_rule (with_rule (plain_command (codes "seq"))
     (option (codes "seed") (Unsigned 0 18446744073709551615)))
     (option (codes "count") (Unsigned 1 100000))
+
+-- `cover` has the options of a run, and none of its flags
+abbrev pub cover_command : App
+cover_command = with_options (codes "cover")
 
 -- how many classes the script of a load has
 abbrev pub class_count : Rule
@@ -103,13 +108,20 @@ pub record IsSeq (words : List Text) (seed count : ℕ) : Type 0 where
   pub seeded : seed ≡ number_or 0 (one_of (codes "seed") (matches_of seq_command words))
   pub counted : count ≡ number_or 1 (one_of (codes "count") (matches_of seq_command words))
 
+-- The words ask for coverage: for a run with these options, and for what cover groups count of it.
+pub record IsCover (words : List Text) (opts : Options) : Type 0 where
+  pub named : slice_get words 0 ≡ Some (codes "cover")
+  pub taken : fault_of cover_command words ≡ []
+  pub options : opts ≡ options_of (matches_of cover_command words)
+
 -- the words ask for none of these
 pub record AskNothing (words : List Text) : Type 0 where
   pub no_run : (run : Run) → IsCommand words run → ⊥
   pub no_load : (count : ℕ) (opts : Options) → IsLoad words count opts → ⊥
   pub no_check : IsCheck words → ⊥
   pub no_seq : (seed count : ℕ) → IsSeq words seed count → ⊥
+  pub no_cover : (opts : Options) → IsCover words opts → ⊥
 
 -- what is printed for such words
 abbrev pub usage_text : List ℕ
-usage_text = codes "usage: svrand run [--seed N] [--budget N] [--size-cap N] [--proofs] [--conflicts] [--lrat]\n       svrand load N [--seed N] [--budget N] [--size-cap N] [--proofs]\n       svrand check\n       svrand seq [--seed N] [--count N]\n"
+usage_text = codes "usage: svrand run [--seed N] [--budget N] [--size-cap N] [--proofs] [--conflicts] [--lrat]\n       svrand load N [--seed N] [--budget N] [--size-cap N] [--proofs]\n       svrand check\n       svrand cover [--seed N] [--budget N] [--size-cap N] [--proofs]\n       svrand seq [--seed N] [--count N]\n"

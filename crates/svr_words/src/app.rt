@@ -7,6 +7,7 @@ ghost use Rattle.svr_words.specs.Words as spec;
 use clap::builder::ValueParser;
 use clap::{Arg, ArgAction, Command};
 use std::alloc::{AllocError, Global};
+use svr_limits::{BUDGET_LIMIT, ELEMENT_LIMIT};
 
 /// An option that takes one value.
 fn option<'a>(alloc: Global, name: &'a str, parser: ValueParser<'a>) -> Arg<'a>
@@ -42,8 +43,12 @@ fn with_options<'a>(alloc: Global, name: &'a str) -> Result<Command<'a>, AllocEr
 {
     plain(alloc, name)
         .arg(option(alloc, "seed", ValueParser::unsigned(0, u64::MAX)))?
-        .arg(option(alloc, "budget", ValueParser::unsigned(1, 16_777_216)))?
-        .arg(option(alloc, "size-cap", ValueParser::unsigned(1, 2048)))?
+        .arg(option(alloc, "budget", ValueParser::unsigned(1, BUDGET_LIMIT)))?
+        .arg(option(
+            alloc,
+            "size-cap",
+            ValueParser::unsigned(1, ELEMENT_LIMIT as u64),
+        ))?
         .arg(flag(alloc, "proofs"))
 }
 
@@ -54,6 +59,13 @@ pub fn run_command<'a>(alloc: Global) -> Result<Command<'a>, AllocError>
     with_options(alloc, "run")?
         .arg(flag(alloc, "conflicts"))?
         .arg(flag(alloc, "lrat"))
+}
+
+/// `cover`, with the options of a run.
+pub fn cover_command<'a>(alloc: Global) -> Result<Command<'a>, AllocError>
+    ensures { IfOk result (λ c. app_of c ≡ spec.cover_command) }
+{
+    with_options(alloc, "cover")
 }
 
 /// How many classes the script of a load has.

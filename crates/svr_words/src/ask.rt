@@ -2,14 +2,15 @@
 ghost use Rattle.std.specs.Prelude.{◌≡◌, ◌≤◌, ℕ, List, Some, true, false, codes, map, slice_get, IfOk, IfSome, IfNone, string_bytes};
 ghost use Rattle.svr_phase.specs.declared.options.Options.{Options};
 ghost use Rattle.svr_words.specs.declared.request.Run.{Run};
-ghost use Rattle.svr_words.specs.Words.{IsCommand, IsLoad, IsCheck, IsSeq, AskNothing};
+ghost use Rattle.svr_words.specs.Words.{IsCommand, IsLoad, IsCheck, IsSeq, IsCover, AskNothing};
 ghost use Rattle.svr_words.specs.Taken.{AreInRange, Asks};
 
-use crate::app::{check_command, load_command, run_command, seq_command};
+use crate::app::{check_command, cover_command, load_command, run_command, seq_command};
 use crate::request::{Lines, Load, Request, Run};
-use crate::take::{load_of, run_of, seq_of};
+use crate::take::{load_of, options, run_of, seq_of};
 use clap::error::ErrorKind;
 use std::alloc::{AllocError, Global};
+use svr_phase::Options;
 
 /// The run in words of which the first names the command, as `clap` takes them.
 fn taken(alloc: Global, words: &[String]) -> Result<Option<Run>, AllocError>
@@ -136,6 +137,37 @@ fn seq_asked(alloc: Global, words: &[String]) -> Result<Option<Request>, AllocEr
     }
 }
 
+/// The options of a run for coverage in words of which the first names the command, as `clap` takes them.
+fn cover_taken(alloc: Global, words: &[String]) -> Result<Option<Options>, AllocError>
+    requires { slice_get (map (λ w. string_bytes w) words.now) 0 ≡ Some (codes "cover") }
+    ensures some { IfOk result (λ r. IfSome r (λ opts. IsCover (map (λ w. string_bytes w) words.now) opts × AreInRange opts)) }
+    ensures none { IfOk result (λ r. IfNone r ((opts : Options) → IsCover (map (λ w. string_bytes w) words.now) opts → ⊥)) }
+{
+    let command = cover_command(alloc)?;
+    match command.try_get_matches_from(words) {
+        Ok(matches) => Ok(Some(options(&matches))),
+        Err(error) => {
+            if error.kind() == ErrorKind::OutOfMemory {
+                Err(AllocError)
+            } else {
+                Ok(None)
+            }
+        }
+    }
+}
+
+#[tactic(auto, using(crate::proofs::Taking::nothing_for_cover))]
+fn cover_asked(alloc: Global, words: &[String]) -> Result<Option<Request>, AllocError>
+    requires { slice_get (map (λ w. string_bytes w) words.now) 0 ≡ Some (codes "cover") }
+    ensures some { IfOk result (λ r. IfSome r (Asks (map (λ w. string_bytes w) words.now))) }
+    ensures none { IfOk result (λ r. IfNone r (AskNothing (map (λ w. string_bytes w) words.now))) }
+{
+    match cover_taken(alloc, words)? {
+        Some(opts) => Ok(Some(Request::Cover(opts))),
+        None => Ok(None),
+    }
+}
+
 /// What the words ask for. None where no command is theirs.
 pub fn command(alloc: Global, words: &[String]) -> Result<Option<Request>, AllocError>
     ensures some { IfOk result (λ r. IfSome r (Asks (map (λ w. string_bytes w) words.now))) }
@@ -151,6 +183,8 @@ pub fn command(alloc: Global, words: &[String]) -> Result<Option<Request>, Alloc
                 check_asked(alloc, words)
             } else if name.as_str() == "seq" {
                 seq_asked(alloc, words)
+            } else if name.as_str() == "cover" {
+                cover_asked(alloc, words)
             } else {
                 Ok(None)
             }

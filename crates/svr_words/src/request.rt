@@ -35,4 +35,6 @@ pub enum Request {
     Check,
     /// Lines of the `randsequence` that is read.
     Seq(Lines),
+    /// A run of the script that is read, and what the cover groups before it count.
+    Cover(Options),
 }

@@ -1,6 +1,6 @@
 //! `svrand`, a constrained random value generator for SystemVerilog (IEEE 1800-2017, clause 18).
 //!
-//! It reads a script of classes and `randomize()` calls from its standard input and prints one line for each call, when it is answered; or it reads clauses with a derivation from them, and says whether it is one.
+//! It reads a script of classes and `randomize()` calls from its standard input and prints one line for each call, when it is answered; or it reads cover groups before a script, and prints behind these lines what they count; or clauses with a derivation from them, and says whether it is one.
 //! All that it does is `run`, whose contract says what is written, and with which status it ends, by the words and the text alone.
 #![tactic(auto)]
 

@@ -1,8 +1,8 @@
-use Rattle.std.proofs.Common.{arith, rules, ap, Err, ◌≡◌, ◌<◌, ◌≤◌, ◌+◌, length}
+use Rattle.std.proofs.Common.{arith, rules, ap, Err, ◌<◌, ◌≤◌, ◌+◌, length}
 use Rattle.svr_edge.specs.Known.{Takes}
 use Rattle.svr_limits.specs.declared.limit.TheConstants.{TEXT_LIMIT}
-use Rattle.svr_status.proofs.Told.{if_told, read_all, read_some, refusal_read, refusal_read_text, refusal_no_usage}
-use Rattle.svr_answer.proofs.Texts.{answer_read, answer_read_text, answer_no_usage, long_told, answer_told}
+use Rattle.svr_status.proofs.Told.{if_told, read_some, all_read, all_extent, takes_within, refusal_read, refusal_read_text, refusal_no_usage}
+use Rattle.svr_answer.proofs.Texts.{answer_no_usage, long_told, answer_told}
 use Rattle.svr_answer.proofs.script.run_source.Goals as goal
 
 -- ---- a text that is too long
@@ -36,17 +36,16 @@ returns-in-Ok-clause-writing g c =
 
 pub returns-in-Ok-clause-extent : goal.returns-in-Ok-clause-extent
 returns-in-Ok-clause-extent g c =
-    if_told (g.S.Source.left c.args.src.now) _ (λ text told.
-    let all : text ≡ c.in-Ok.text.items = read_all _ _ text c.in-Ok.text.items told c.in-Ok.ensures.text c.in-Ok.ensures.at_end in
-    let fits : length c.in-Ok.text.items ≤ TEXT_LIMIT = search rules in
-    let small : length text ≤ TEXT_LIMIT = rw all fits in
-    answer_read_text c.args.asked _ c.answer.result _ _ text _ _ c.answer.ensures small c.in-Ok.ensures.at_end)
+    let few : length c.in-Ok.text.items ≤ TEXT_LIMIT = search rules in
+    all_extent TEXT_LIMIT c.in-Ok.text.items c.answer.result _ _ (answer_no_usage c.args.asked _ c.answer.result _ _ c.answer.ensures) c.in-Ok.ensures.text few c.in-Ok.ensures.at_end
 
 pub returns-in-Ok-clause-command : goal.returns-in-Ok-clause-command
 returns-in-Ok-clause-command g c = λ e. absurd (answer_no_usage c.args.asked _ c.answer.result _ _ c.answer.ensures e)
 
 pub returns-in-Ok-clause-read : goal.returns-in-Ok-clause-read
-returns-in-Ok-clause-read g c = answer_read c.args.asked _ c.answer.result _ _ _ _ c.answer.ensures c.in-Ok.ensures.at_end
+returns-in-Ok-clause-read g c =
+    let few : length c.in-Ok.text.items ≤ TEXT_LIMIT = search rules in
+    all_read TEXT_LIMIT c.in-Ok.text.items c.answer.result _ _ (answer_no_usage c.args.asked _ c.answer.result _ _ c.answer.ensures) c.in-Ok.ensures.text few c.in-Ok.ensures.at_end
 
 pub returns-in-Ok-clause-read_fault : goal.returns-in-Ok-clause-read_fault
 returns-in-Ok-clause-read_fault g c = λ e. absurd (c.answer.ensures.was_read e)
@@ -59,3 +58,18 @@ returns-in-Ok-clause-out_faults g c = c.answer.ensures.out_later
 
 pub returns-in-Ok-clause-journal_faults : goal.returns-in-Ok-clause-journal_faults
 returns-in-Ok-clause-journal_faults g c = c.answer.ensures.journal_later
+
+-- ---- no text
+
+pub returns-in-Err-Failed-clause-extent : goal.returns-in-Err-Failed-clause-extent
+returns-in-Err-Failed-clause-extent g c = if_told (g.S.Source.left c.args.src.now) _ (λ text told. c.in-Err-Failed.ensures.failed_within (ap (λ e. Err e) c.in-Err-Failed.field-0-is))
+
+pub returns-in-Err-Failed-clause-read : goal.returns-in-Err-Failed-clause-read
+returns-in-Err-Failed-clause-read g c = c.in-Err-Failed.ensures.failed_within (ap (λ e. Err e) c.in-Err-Failed.field-0-is)
+
+pub returns-in-Err-NoMemory-clause-extent : goal.returns-in-Err-NoMemory-clause-extent
+returns-in-Err-NoMemory-clause-extent g c =
+    if_told (g.S.Source.left c.args.src.now) _ (λ text told. takes_within _ _ TEXT_LIMIT (c.in-Err-NoMemory.ensures.no_memory_within (ap (λ e. Err e) c.in-Err-NoMemory.field-0-is)))
+
+pub returns-in-Err-NoMemory-clause-read : goal.returns-in-Err-NoMemory-clause-read
+returns-in-Err-NoMemory-clause-read g c = takes_within _ _ TEXT_LIMIT (c.in-Err-NoMemory.ensures.no_memory_within (ap (λ e. Err e) c.in-Err-NoMemory.field-0-is))

@@ -1,8 +1,8 @@
-use Rattle.std.proofs.Common.{arith, rules, ap, Err, ◌≡◌, ◌<◌, ◌≤◌, ◌+◌, length}
+use Rattle.std.proofs.Common.{arith, rules, ap, Err, ◌<◌, ◌≤◌, ◌+◌, length}
 use Rattle.svr_edge.specs.Known.{Takes}
 use Rattle.svr_lrat_text.specs.declared.limits.TheConstants.{MOST_TEXT}
-use Rattle.svr_status.proofs.Told.{if_told, read_all, read_some, refusal_read, refusal_read_text, refusal_no_usage}
-use Rattle.svr_command_check.proofs.Checks.{checks_told, long_told, nothing_told, fault_told, checks_read, checks_read_text, checks_no_usage, checks_no_read_fault, checks_cause}
+use Rattle.svr_status.proofs.Told.{if_told, read_some, all_read, all_extent, takes_within, refusal_read, refusal_read_text, refusal_no_usage}
+use Rattle.svr_command_check.proofs.Checks.{checks_told, long_told, nothing_told, fault_told, checks_no_usage, checks_no_read_fault, checks_cause}
 use Rattle.svr_command_check.proofs.check.check_source.Goals as goal
 
 -- ---- a text that is too long
@@ -37,17 +37,16 @@ returns-in-Ok-clause-writing g c = λ journal n.
 
 pub returns-in-Ok-clause-extent : goal.returns-in-Ok-clause-extent
 returns-in-Ok-clause-extent g c =
-    if_told (g.S.Source.left c.args.src.now) _ (λ text told.
-    let all : text ≡ c.in-Ok.text.items = read_all _ _ text c.in-Ok.text.items told c.in-Ok.ensures.text c.in-Ok.ensures.at_end in
-    let fits : length c.in-Ok.text.items ≤ MOST_TEXT = search rules in
-    let small : length text ≤ MOST_TEXT = rw all fits in
-    checks_read_text _ c.answer.result _ _ _ _ text _ _ c.answer.ensures.checks small c.in-Ok.ensures.at_end)
+    let few : length c.in-Ok.text.items ≤ MOST_TEXT = search rules in
+    all_extent MOST_TEXT c.in-Ok.text.items c.answer.result _ _ (checks_no_usage _ c.answer.result _ _ _ _ c.answer.ensures.checks) c.in-Ok.ensures.text few c.in-Ok.ensures.at_end
 
 pub returns-in-Ok-clause-command : goal.returns-in-Ok-clause-command
 returns-in-Ok-clause-command g c = λ e. absurd (checks_no_usage _ c.answer.result _ _ _ _ c.answer.ensures.checks e)
 
 pub returns-in-Ok-clause-read : goal.returns-in-Ok-clause-read
-returns-in-Ok-clause-read g c = checks_read _ c.answer.result _ _ _ _ _ _ c.answer.ensures.checks c.in-Ok.ensures.at_end
+returns-in-Ok-clause-read g c =
+    let few : length c.in-Ok.text.items ≤ MOST_TEXT = search rules in
+    all_read MOST_TEXT c.in-Ok.text.items c.answer.result _ _ (checks_no_usage _ c.answer.result _ _ _ _ c.answer.ensures.checks) c.in-Ok.ensures.text few c.in-Ok.ensures.at_end
 
 pub returns-in-Ok-clause-read_fault : goal.returns-in-Ok-clause-read_fault
 returns-in-Ok-clause-read_fault g c = λ e. absurd (checks_no_read_fault _ c.answer.result _ _ _ _ c.answer.ensures.checks e)
@@ -56,6 +55,19 @@ pub returns-in-Ok-clause-write_fault : goal.returns-in-Ok-clause-write_fault
 returns-in-Ok-clause-write_fault g c = checks_cause _ c.answer.result _ _ _ _ c.answer.ensures.checks
 
 -- ---- no text
+
+pub returns-in-Err-Failed-clause-extent : goal.returns-in-Err-Failed-clause-extent
+returns-in-Err-Failed-clause-extent g c = if_told (g.S.Source.left c.args.src.now) _ (λ text told. c.in-Err-Failed.ensures.failed_within (ap (λ e. Err e) c.in-Err-Failed.field-0-is))
+
+pub returns-in-Err-Failed-clause-read : goal.returns-in-Err-Failed-clause-read
+returns-in-Err-Failed-clause-read g c = c.in-Err-Failed.ensures.failed_within (ap (λ e. Err e) c.in-Err-Failed.field-0-is)
+
+pub returns-in-Err-NoMemory-clause-extent : goal.returns-in-Err-NoMemory-clause-extent
+returns-in-Err-NoMemory-clause-extent g c =
+    if_told (g.S.Source.left c.args.src.now) _ (λ text told. takes_within _ _ MOST_TEXT (c.in-Err-NoMemory.ensures.no_memory_within (ap (λ e. Err e) c.in-Err-NoMemory.field-0-is)))
+
+pub returns-in-Err-NoMemory-clause-read : goal.returns-in-Err-NoMemory-clause-read
+returns-in-Err-NoMemory-clause-read g c = takes_within _ _ MOST_TEXT (c.in-Err-NoMemory.ensures.no_memory_within (ap (λ e. Err e) c.in-Err-NoMemory.field-0-is))
 
 pub returns-in-Err-Failed-clause-writing : goal.returns-in-Err-Failed-clause-writing
 returns-in-Err-Failed-clause-writing g c = λ journal n. fault_told (g.S.Source.left c.args.src.now) (g.K.Sink.written c.args.out.now) journal (g.K.Sink.faults c.args.out.now) n

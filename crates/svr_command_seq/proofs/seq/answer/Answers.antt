@@ -1,9 +1,5 @@
-use Rattle.std.proofs.Common.{ap, subst}
-use Rattle.svr_seq_lines.specs.declared.end.End.{End}
-use Rattle.svr_seq_lines.specs.declared.end.End.TheVariants as end
-use Rattle.svr_seq_lines.specs.declared.end.Stop.{Stop}
 use Rattle.svr_seq_lines.specs.declared.end.Stop.TheVariants as stop
-use Rattle.svr_seq_lines.specs.Said.{Tells, Stops}
+use Rattle.svr_seq_lines.specs.Said.{Stops}
 use Rattle.svr_status.proofs.Told.{refusal_no_usage}
 use Rattle.svr_command_seq.proofs.Produced.{whole_written, limited_written, refusal_written, memory_written, fault_written, refusal_no_read, refusal_cause, rose_since, later_since}
 use Rattle.svr_command_seq.proofs.seq.answer.Goals as goal

@@ -1,14 +1,14 @@
-use Rattle.std.proofs.Common.{map, string_bytes, refl, inl}
+use Rattle.std.proofs.Common.{◌+◌, map, string_bytes, refl, inl}
 use Rattle.std.proofs.KnownBytes.{Keeps-refl}
 use Rattle.svr_limits.specs.declared.limit.TheConstants.{TEXT_LIMIT}
 use Rattle.svr_lrat_text.specs.declared.limits.TheConstants.{MOST_TEXT}
 use Rattle.svr_words.specs.Words.{AskNothing, IsCheck, IsSeq}
 use Rattle.svr_words.specs.Taken.{Asks}
-use Rattle.svr_program.specs.Outcome.{a_script, a_derivation, a_sequence}
-use Rattle.svr_words.specs.declared.request.Request.TheVariants.{Run, Load}
-use Rattle.svr_status.proofs.Told.{ends_unread, read_for, extent_for}
-use Rattle.svr_program.proofs.Said.{usage_told, source_is_said, made_is_said, checked_is_said, lines_are_said}
-use Rattle.svr_program.proofs.Commands.{run_reads, check_reads, seq_reads, load_reads_nothing, none_reads}
+use Rattle.svr_program.specs.Outcome.{a_script, a_derivation, a_sequence, a_coverage}
+use Rattle.svr_words.specs.declared.request.Request.TheVariants.{Run, Load, Cover}
+use Rattle.svr_status.proofs.Told.{if_told, takes_nothing, ends_unread, read_for, extent_for}
+use Rattle.svr_program.proofs.Said.{usage_told, source_is_said, made_is_said, checked_is_said, lines_are_said, coverage_is_said}
+use Rattle.svr_program.proofs.Commands.{run_reads, check_reads, seq_reads, cover_reads, load_reads_nothing, none_reads}
 use Rattle.svr_answer.proofs.Loads.{load_no_usage}
 use Rattle.svr_program.proofs.top.run.Goals as goal
 
@@ -37,6 +37,14 @@ returns-in-Ok-None-clause-read g c =
 
 pub returns-in-Ok-None-clause-unread : goal.returns-in-Ok-None-clause-unread
 returns-in-Ok-None-clause-unread g c = λ none. Keeps-refl (g.S.Source.left c.args.src.now)
+
+-- ---- no memory for the words
+
+pub returns-in-Err-clause-extent : goal.returns-in-Err-clause-extent
+returns-in-Err-clause-extent g c = λ limit reads. if_told (g.S.Source.left c.args.src.now) _ (λ text told. takes_nothing (g.S.Source.left c.args.src.now) (limit + 1))
+
+pub returns-in-Err-clause-read : goal.returns-in-Err-clause-read
+returns-in-Err-clause-read g c = λ limit reads. takes_nothing (g.S.Source.left c.args.src.now) (limit + 1)
 
 -- ---- a run
 
@@ -188,3 +196,38 @@ returns-in-Seq-clause-unread g c =
 
 pub returns-in-Seq-clause-write_fault : goal.returns-in-Seq-clause-write_fault
 returns-in-Seq-clause-write_fault g c = λ e. inl (c.seq_source.ensures.write_fault e)
+
+-- ---- coverage
+
+pub cover_source-requires : goal.cover_source-requires
+cover_source-requires g c =
+    let asked : Asks (map (λ w. string_bytes w) c.args.words.now) (Cover c.in-Cover.opts) = rw (c.in-Ok-Some.field-0-is, c.in-Cover.is) at c.in-Ok-Some.ensures.some in
+    asked.1
+
+pub returns-in-Cover-clause-headline : goal.returns-in-Cover-clause-headline
+returns-in-Cover-clause-headline g c =
+    let asked : Asks (map (λ w. string_bytes w) c.args.words.now) (Cover c.in-Cover.opts) = rw (c.in-Ok-Some.field-0-is, c.in-Cover.is) at c.in-Ok-Some.ensures.some in
+    coverage_is_said (g.S.Source.left c.args.src.now) (map (λ w. string_bytes w) c.args.words.now) c.in-Cover.opts c.cover_source.result _ _ asked.0 c.cover_source.ensures.writing
+
+pub returns-in-Cover-clause-extent : goal.returns-in-Cover-clause-extent
+returns-in-Cover-clause-extent g c =
+    let asked : Asks (map (λ w. string_bytes w) c.args.words.now) (Cover c.in-Cover.opts) = rw (c.in-Ok-Some.field-0-is, c.in-Cover.is) at c.in-Ok-Some.ensures.some in
+    λ limit reads. extent_for TEXT_LIMIT limit _ c.cover_source.result _ _ (cover_reads (map (λ w. string_bytes w) c.args.words.now) c.in-Cover.opts limit asked.0 reads) c.cover_source.ensures.extent
+
+pub returns-in-Cover-clause-usage : goal.returns-in-Cover-clause-usage
+returns-in-Cover-clause-usage g c = λ e. absurd (c.cover_source.ensures.command e)
+
+pub returns-in-Cover-clause-no_command : goal.returns-in-Cover-clause-no_command
+returns-in-Cover-clause-no_command g c =
+    let asked : Asks (map (λ w. string_bytes w) c.args.words.now) (Cover c.in-Cover.opts) = rw (c.in-Ok-Some.field-0-is, c.in-Cover.is) at c.in-Ok-Some.ensures.some in
+    λ none. absurd (none.no_cover c.in-Cover.opts asked.0)
+
+pub returns-in-Cover-clause-read : goal.returns-in-Cover-clause-read
+returns-in-Cover-clause-read g c =
+    let asked : Asks (map (λ w. string_bytes w) c.args.words.now) (Cover c.in-Cover.opts) = rw (c.in-Ok-Some.field-0-is, c.in-Cover.is) at c.in-Ok-Some.ensures.some in
+    λ limit reads. read_for TEXT_LIMIT limit c.cover_source.result _ _ (cover_reads (map (λ w. string_bytes w) c.args.words.now) c.in-Cover.opts limit asked.0 reads) c.cover_source.ensures.read
+
+pub returns-in-Cover-clause-unread : goal.returns-in-Cover-clause-unread
+returns-in-Cover-clause-unread g c =
+    let asked : Asks (map (λ w. string_bytes w) c.args.words.now) (Cover c.in-Cover.opts) = rw (c.in-Ok-Some.field-0-is, c.in-Cover.is) at c.in-Ok-Some.ensures.some in
+    λ none. absurd (none TEXT_LIMIT (a_coverage c.in-Cover.opts asked.0 refl))

@@ -21,3 +21,8 @@ pub seq_asked-requires : goal.seq_asked-requires
 seq_asked-requires c =
     let seq : string_bytes c.name-item.result ≡ codes "seq" = search rules in
     head_is (λ w. string_bytes w) c.args.words.now c.name-item.result c.in-len1-up.len_at_least c.name-item.is ∙ ap (λ (t : List ℕ). Some t) seq
+
+pub cover_asked-requires : goal.cover_asked-requires
+cover_asked-requires c =
+    let cover : string_bytes c.name-item.result ≡ codes "cover" = search rules in
+    head_is (λ w. string_bytes w) c.args.words.now c.name-item.result c.in-len1-up.len_at_least c.name-item.is ∙ ap (λ (t : List ℕ). Some t) cover

@@ -1,0 +1,9 @@
+pub mod Hits
+pub mod Gathering
+pub mod Standing
+pub mod Owners
+pub mod Products
+pub mod Ways
+pub mod Within
+pub mod Once
+pub mod Numbers

@@ -1,0 +1,4 @@
+pub mod Turns
+pub mod Within
+pub mod OneByOne
+pub mod Inside

@@ -1,0 +1,5 @@
+pub mod Named
+pub mod Stored
+pub mod Within
+pub mod Plan
+pub mod Made

@@ -1,0 +1,4 @@
+pub mod Runs
+mod Rests
+pub mod Exact
+pub mod Way

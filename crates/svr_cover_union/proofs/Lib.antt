@@ -1,0 +1,3 @@
+pub mod Steady
+pub mod Unions
+pub mod Made

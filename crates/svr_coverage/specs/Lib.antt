@@ -1,0 +1,4 @@
+pub mod Script
+pub mod Front
+pub mod Classes
+pub mod Counters
