@@ -29,7 +29,7 @@ LEMMA = re.compile(r"^ *(?:abbrev |unfoldable )?(?:pub )?([a-z][\w'-]*) :")
 
 # The crates whose lemmas are spelled as std spells its own: what is spoken of, a hyphen, what is said of it.
 HYPHENS = {
-    "svr_arena", "svr_cdcl", "svr_chain", "svr_gate", "svr_lrat", "svr_lrat_judge", "svr_lrat_made", "svr_lrat_printed",
+    "svr_arena", "svr_cdcl", "svr_chain", "svr_cover", "svr_cover_checked", "svr_cover_laws", "svr_cover_made", "svr_cover_made_laws", "svr_cover_steps", "svr_cover_text", "svr_cover_union", "svr_gate", "svr_lrat", "svr_lrat_judge", "svr_lrat_made", "svr_lrat_printed",
     "svr_lrat_text", "svr_query", "svr_seq_made", "svr_seq_text", "svr_soft", "svr_trail", "svr_watch",
 }
 

@@ -9,7 +9,7 @@ PROGRAM is the built program, as crates/svrand/out/svrand. In a console block a 
 shell in a folder in which PROGRAM is `./svrand`, examples/ and tools/ lie, and each block with a name behind its kind
 is a file of that name; the lines up to the next command are what it prints. The scripts and the refusals of scripts are
 read as tools/examples.py reads them, and tried here too. Of the tables with three columns, a number and two texts, the first
-text is refused with the number and the second is not: derivations, and productions in their frame.
+text is refused with the number and the second is not: derivations, and productions and parts of a cover group in their frames.
 
 The rows of the tests are those commands that run PROGRAM once, over a file or over what `sed` or `head` makes of one,
 and print all of it, its first or its last lines; then each example with what is stored, and the refusals of the tables
@@ -173,10 +173,14 @@ def copies():
     ])
 
 
+# What a text that is not refused comes to, by its command.
+FIRST = {"check": "accepted\n", "seq": "#1 a", "cover": "#1 "}
+
+
 def repaired_runs(number, words, refused, repaired):
     """The run of a text that is refused with a number, and of one that is not."""
     yield words, refused, "Refused", "Last", f" {number}\n"
-    yield words, repaired, "AllOne", "First", "accepted\n" if words == ["check"] else "#1 a"
+    yield words, repaired, "AllOne", "First", FIRST[words[0]]
 
 
 def framed_pairs():
@@ -186,6 +190,10 @@ def framed_pairs():
     for number, refused, repaired in pairs({36, 37, 38, 39}):
         framed = [f"randsequence () {text} endsequence" for text in (refused, repaired)]
         yield number, ["seq"], *framed
+    frame = examples.scripts()[-1][0].splitlines()
+    for number, refused, repaired in pairs({31, 32, 33, 34, 35}):
+        head = "covergroup g with function sample(P p);"
+        yield number, ["cover"], *["\n".join([f"{head} {text} endgroup", *frame]) for text in (refused, repaired)]
 
 
 def tries():
@@ -198,6 +206,7 @@ def tries():
     yield 6, ["run"], *[examples.framed(frame, text) for text in deep]
     whole = "\n".join(frame)
     yield 27, ["run"], whole.ljust(LONGEST + 1), whole.ljust(LONGEST)
+    yield 27, ["cover"], whole.ljust(LONGEST + 1), whole.ljust(LONGEST)
     line = "randsequence () main : { a; }; endsequence"
     yield 27, ["seq"], line.ljust(LONGEST + 1), line.ljust(LONGEST)
 

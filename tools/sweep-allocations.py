@@ -7,7 +7,7 @@ PROGRAM is the built program, as crates/svrand/out/svrand. A library that stands
 allocation of a number. Each run with a refused allocation has to end with status 8, and what it has written has to be a
 front of what the run writes where nothing is refused; or it writes all of that and ends as there, where the room was not
 needed: a list that std's `collect` makes asks for all its room ahead, and grows bit by bit where that is refused. Prints
-a line for each script with each of two lists of words; the exit status is 1 where a run ends otherwise. It needs a C
+a line for each script with each of two lists of words, and one for cover groups; the exit status is 1 where a run ends otherwise. It needs a C
 compiler (cc).
 """
 import itertools
@@ -90,6 +90,16 @@ endclass
 
 WORDS = [["run", "--proofs"], ["run", "--conflicts", "--lrat"]]
 
+COVERAGE = """covergroup g with function sample(P p);
+x: coverpoint p.a { bins low = {[0:1]}; bins each[] = {[0:3]}; }
+y: coverpoint p.b { bins one = {1}; }
+xy: cross x, y;
+endgroup
+class P;
+rand bit [1:0] a; rand bit b;
+endclass
+""" + MODULE.format(type="P", calls="repeat (2) p.randomize();")
+
 
 def run(program, words, text, shim, **more):
     env = {**os.environ, "LD_PRELOAD": str(shim), **more}
@@ -118,7 +128,8 @@ def main():
         source, shim, counted = (pathlib.Path(folder) / name for name in ("shim.c", "shim.so", "counted"))
         source.write_text(SHIM)
         subprocess.run(["cc", "-O2", "-shared", "-fPIC", "-o", shim, source], check=True)
-        for (name, text), words in itertools.product(SCRIPTS.items(), WORDS):
+        runs = [*itertools.product(SCRIPTS.items(), WORDS), (("cover groups", COVERAGE), ["cover"])]
+        for (name, text), words in runs:
             status, count, spared, odd = sweep(program, words, text, shim, counted)
             is_clean = is_clean and not odd
             refused = count - spared - len(odd)

@@ -6,8 +6,8 @@ variable and a call for each; wide.sv has one class of 1,000 properties, and
 items of 90 operands or 400 members up to 4 MiB, the most that is read.
 searched.sv has 1,000 calls of a class of ten `int` properties and twenty items,
 which preferred values hardly ever meet; preferred.sv has 99,998 calls, as many as may be, of a class
-whose items they always meet; conflicts.sv has one call of a class of 200 items,
-of which three contradict each other.
+whose items they always meet; switched_off.sv has 10,000 calls of a class whose 200 items are switched off;
+conflicts.sv has one call of a class of 200 items, of which three contradict each other.
 
 Of runs, small scripts of the kinds that users write: packets.sv, ascending.sv, defaults.sv, grid.sv, quotients.sv,
 ranges.sv. Of variety, 1,000 calls each on an object with few solutions: VARIETY says how many.
@@ -69,11 +69,11 @@ def wide(count):
     return "".join(parts + [tail])
 
 
-def calls(count, items):
-    """So many calls of a class of ten `int` properties with these items."""
+def calls(count, items, before=""):
+    """So many calls of a class of ten `int` properties with these items, behind a statement."""
     props = "".join(f"rand int a{i};\n" for i in range(10))
     head = f"class Packet;\n{props}constraint c {{\n{items}}}\nendclass\n"
-    return f"{head}module m;\ninitial begin\nPacket p = new;\nrepeat ({count}) p.randomize();\nend\nendmodule\n"
+    return f"{head}module m;\ninitial begin\nPacket p = new;\n{before}repeat ({count}) p.randomize();\nend\nendmodule\n"
 
 
 def searched(count):
@@ -87,6 +87,12 @@ def preferred(count):
     """Twenty items that all values meet."""
     items = "".join(f"a{i} <= 32'sh7fffffff;\n(a{i} ^ a{i}) == 0;\n" for i in range(10))
     return calls(count, items)
+
+
+def switched_off(count):
+    """200 items, none of which is active."""
+    items = "".join(f"a{k % 10} + {k} != a{(k + 3) % 10};\n" for k in range(200))
+    return calls(count, items, "p.c.constraint_mode(0);\n")
 
 
 def conflicts(count):
@@ -198,6 +204,7 @@ def write(folder):
     (folder / "wide.sv").write_text(wide(1000))
     (folder / "searched.sv").write_text(searched(1000))
     (folder / "preferred.sv").write_text(preferred(99_998))
+    (folder / "switched_off.sv").write_text(switched_off(10_000))
     (folder / "conflicts.sv").write_text(conflicts(200))
     for name, made in RUNS.items():
         (folder / f"{name}.sv").write_text(made())
