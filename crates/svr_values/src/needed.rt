@@ -31,7 +31,7 @@ fn holds_if_needed(item: &TExpr, needed: bool, a: &Assign) -> bool
     !needed || holds(item, a)
 }
 
-/// The first place at which a closed expression is marked as needed and has the value 0, none where there is none.
+/// A place of the list where some closed expression is marked as needed and has the value 0, none where there is none. It is that of the first of them, on which nothing rests: it tells where to look first when they are asked again.
 pub fn needed_fault(items: &[TExpr], needed: &[bool], a: &Assign) -> Option<usize>
     requires typed { All (λ e. IsTyped (expr_term e)) items.now }
     requires reads { All (λ e. CanRead (reading_of a.now) 0 (expr_term e)) items.now }
