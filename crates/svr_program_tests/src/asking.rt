@@ -28,7 +28,7 @@ pub(crate) fn plain<'a>(words: &'a [&'a str], text: &'a [u8]) -> Case<'a> {
 }
 
 /// The words as strings. Where there is no memory for one it is left out, and the program is asked something else.
-fn words_of(alloc: Global, words: &[&str]) -> Vec<String> {
+pub(crate) fn words_of(alloc: Global, words: &[&str]) -> Vec<String> {
     let mut made = Vec::new(alloc);
     for word in words {
         if let Ok(word) = String::from_str(alloc, word) {

@@ -1,4 +1,4 @@
-//! The tests of the program: words with what they print, scripts, refusals, long texts, loads, checks, lines of `randsequence` and coverage, through `run` over a source and sinks in memory.
+//! The tests of the program: words with what they print, scripts, refusals, long texts, loads, checks, lines of `randsequence`, coverage and hostile use, through `run` over a source and sinks in memory.
 //!
 //! They stand apart, over the library, so that it is proved once.
 #![tactic(auto)]
@@ -15,6 +15,8 @@ mod coverage;
 mod flags;
 #[cfg(test)]
 mod held;
+#[cfg(test)]
+mod hostile;
 #[cfg(test)]
 mod scripts;
 #[cfg(test)]

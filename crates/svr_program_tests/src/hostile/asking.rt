@@ -1,6 +1,7 @@
 // The program over a source in pieces of 16 bytes, and two sinks in memory.
 
-use crate::held::{added, numbers, text_of};
+use crate::asking::words_of;
+use crate::held::{numbers, text_of};
 use std::alloc::Global;
 use svr_edge::{MemSink, MemSource};
 use svr_program::run;
@@ -25,17 +26,6 @@ pub(crate) fn plain<'a>(words: &'a [&'a str], text: &'a [u8]) -> Case<'a> {
         write_fails: &[],
         log_fails: &[],
     }
-}
-
-/// The words as strings. Where there is no memory for one it is left out, and the program is asked something else.
-fn words_of(alloc: Global, words: &[&str]) -> Vec<String> {
-    let mut made = Vec::new(alloc);
-    for word in words {
-        if let Ok(word) = String::from_str(alloc, word) {
-            added(&mut made, word);
-        }
-    }
-    made
 }
 
 /// How a run ends, with what it writes to the two sinks.

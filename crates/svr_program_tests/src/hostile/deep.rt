@@ -1,7 +1,7 @@
 // Texts that are deep, and questions that are heavy.
 
-use crate::asking::{ends_in_fronts, plain, prints};
 use crate::held::joined;
+use crate::hostile::asking::{ends_in_fronts, plain, prints};
 use std::alloc::Global;
 use svr_status::Status;
 

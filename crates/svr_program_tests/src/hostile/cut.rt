@@ -1,7 +1,7 @@
 // A text that is cut off at each of its bytes.
 
-use crate::asking::{plain, prints};
-use crate::texts::PACKET;
+use crate::hostile::asking::{plain, prints};
+use crate::hostile::texts::PACKET;
 use std::alloc::Global;
 use svr_status::Status;
 

@@ -1,7 +1,7 @@
 // A source that fails at each of its calls in turn, and so the sinks.
 
-use crate::asking::{Case, Written, ends_in_fronts, plain, written_of};
-use crate::texts::{CYCLIC, FIVE, PACKET, SOFT, UNEQUAL};
+use crate::hostile::asking::{Case, Written, ends_in_fronts, plain, written_of};
+use crate::hostile::texts::{CYCLIC, FIVE, PACKET, SOFT, UNEQUAL};
 use std::alloc::Global;
 use svr_status::Status;
 
