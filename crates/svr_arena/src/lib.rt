@@ -15,7 +15,7 @@ use std::marker::Model;
 const MOST: u64 = 1 << 40;
 
 /// First a head per literal; then each clause with its length, two next words and its literals.
-#[derive(Debug, Drop)]
+#[derive(Drop)]
 pub struct Arena {
     words: Vec<u64>,
     codes: u64,

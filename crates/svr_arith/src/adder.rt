@@ -66,10 +66,10 @@ fn long_sum(
     let mut carry = carry_in;
     for i in 0..x.len() {
         let (low, high) = full_add(b, x[i], y[i], carry)?;
-        sum.push(low)?;
+        sum.push_reserved(low);
         carry = high;
     }
-    sum.push(carry)?;
+    sum.push_reserved(carry);
     Ok(sum)
 }
 

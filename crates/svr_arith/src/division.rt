@@ -32,12 +32,12 @@ fn high_zeros(alloc: Global, b: &mut Builder, y: &[Lit]) -> Result<Vec<Lit>, NoM
     ensures value { IfOk result (λ v. TellHighZeros b.new v.items y.now) }
 {
     let mut are_zero = b.define::<0>(table!(always), [])?;
-    let mut zeros = Vec::new(alloc);
-    zeros.push(are_zero)?;
+    let mut zeros = Vec::with_capacity(alloc, y.len() + 1)?;
+    zeros.push_reserved(are_zero);
     for i in 0..y.len() {
         let is_zero = y[y.len() - 1 - i].flipped();
         are_zero = b.define::<2>(table!(both), [are_zero, is_zero])?;
-        zeros.push(are_zero)?;
+        zeros.push_reserved(are_zero);
     }
     Ok(zeros)
 }

@@ -7,7 +7,7 @@ use svr_frame::Part;
 use svr_phase::{Proof, Renewed};
 
 /// A question that a call asks: for the next value of a cyclic property, for sizes, for values that meet the hard items, or those and the soft item of a rank.
-#[derive(Clone, Copy, Debug, PartialEq, Eq)]
+#[derive(Clone, Copy)]
 pub enum Query {
     Randc(u32),
     Size,

@@ -13,7 +13,7 @@ use svr_lrat_text::LratFault;
 use svr_refusal::{Place, Refusal, place_of};
 
 /// What is said of a text.
-#[derive(Clone, Copy, Debug, PartialEq, Eq)]
+#[derive(Clone, Copy)]
 pub enum Checked {
     /// It is a file, and this is the verdict on it.
     Judged(LratVerdict),

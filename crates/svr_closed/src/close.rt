@@ -6,7 +6,7 @@ ghost use Rattle.svr_typed.specs.ExprTerm.{expr_term, expr_terms, range_term, ra
 ghost use Rattle.svr_eval.specs.Value.{index_of};
 ghost use Rattle.svr_frame.specs.Closed as spec;
 
-use crate::typing::Typing;
+use crate::typing::{Typing, both};
 use sqlite_items::Items;
 use std::alloc::Global;
 use svr_eval::Env;
@@ -175,8 +175,8 @@ impl Loops<'_> {
         match range {
             TRange::One(e) => Ok(TRange::one(self.expr(e)?)),
             TRange::Span(low, high) => {
-                let low = self.bound(low)?;
-                Ok(TRange::span(low, self.bound(high)?))
+                let (low, high) = both(self.bound(low), self.bound(high))?;
+                Ok(TRange::span(low, high))
             }
         }
     }

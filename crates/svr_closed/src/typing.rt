@@ -9,6 +9,17 @@ use std::alloc::Global;
 use svr_operator::{BinOp, Fold, UnOp};
 use svr_typed::{NoMemory, TExpr, TNode, TRange};
 
+/// Both values, where both are there. It is generic, so that one that is let go where the other is missing costs its caller nothing.
+pub(crate) fn both<T: Drop, U: Drop>(
+    first: Result<T, NoMemory>,
+    second: Result<U, NoMemory>,
+) -> Result<(T, U), NoMemory>
+    ensures first { IfOk result (λ values. first ≡ Ok values.0) }
+    ensures second { IfOk result (λ values. second ≡ Ok values.1) }
+{
+    Ok((first?, second?))
+}
+
 /// Two copies, where both are there.
 fn two(
     first: Result<TExpr, NoMemory>,

@@ -9,7 +9,7 @@ use crate::tuple::count_tuples;
 use sqlite_items::Items;
 
 /// A cross (IEEE 1800-2017, 19.6): the counter of its first tuple, and the places of its points in their group, from the last to the first.
-#[derive(Debug, Drop)]
+#[derive(Drop)]
 pub struct Cross {
     pub first: u32,
     pub points: Items<u32>,

@@ -8,7 +8,7 @@ use crate::point::{Point, bins_in, hits_in};
 use sqlite_items::Items;
 
 /// A tuple on the way from its last point to its first: its number among the tuples of the points that are gone through, how many such tuples there are, and what is left of the number that names it among the tuples of a sample.
-#[derive(Clone, Copy, Debug, PartialEq, Eq)]
+#[derive(Clone, Copy)]
 struct Way {
     number: usize,
     scale: usize,

@@ -7,7 +7,7 @@ use sqlite_items::Items;
 use std::alloc::AllocError;
 
 /// Why cover groups are refused.
-#[derive(Clone, Copy, Debug, PartialEq, Eq)]
+#[derive(Clone, Copy)]
 pub enum CoverFault {
     /// A refusal by its number, and the token where it stands:
     /// 32, a name that is no class, no scalar property of it, not the formal argument, or no earlier point; 33, a name that an earlier one of its kind has;

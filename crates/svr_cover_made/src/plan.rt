@@ -17,7 +17,7 @@ use svr_cover_union::Range;
 use svr_typed::{NoMemory, NumType, Prop};
 
 /// A point as it is planned: its property, the counter of its first bin, and the stored values of each of its bins.
-#[derive(Debug, Drop)]
+#[derive(Drop)]
 pub struct PointPlan {
     pub prop: u32,
     pub first: u32,

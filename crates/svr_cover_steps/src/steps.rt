@@ -8,7 +8,7 @@ use sqlite_items::{Items, at};
 use std::marker::Model;
 
 /// The bins, by number, that have the values from one on up to the next step.
-#[derive(Debug, Drop)]
+#[derive(Drop)]
 pub struct Step {
     pub from: u64,
     pub bins: Items<u32>,

@@ -10,7 +10,7 @@ use std::alloc::{AllocError, Global};
 use std::mem;
 
 /// What stands at the head of the group at hand.
-#[derive(Clone, Copy, Debug, PartialEq, Eq)]
+#[derive(Clone, Copy)]
 pub(crate) struct GroupHead {
     name: u32,
     class: u32,
@@ -18,7 +18,7 @@ pub(crate) struct GroupHead {
 }
 
 /// What stands at the head of the part at hand.
-#[derive(Clone, Copy, Debug, PartialEq, Eq)]
+#[derive(Clone, Copy)]
 pub(crate) struct PartHead {
     name: u32,
     formal: u32,
@@ -26,14 +26,14 @@ pub(crate) struct PartHead {
 }
 
 /// What stands at the head of the `bins` at hand.
-#[derive(Clone, Copy, Debug, PartialEq, Eq)]
+#[derive(Clone, Copy)]
 pub(crate) struct BinsHead {
     name: u32,
     each: bool,
 }
 
 /// The first token of the range at hand, and its lower bound.
-#[derive(Clone, Copy, Debug, PartialEq, Eq)]
+#[derive(Clone, Copy)]
 pub(crate) struct RangeHead {
     at: u32,
     low: NumText,

@@ -3,7 +3,7 @@
 use std::alloc::AllocError;
 
 /// Why tokens write no cover groups.
-#[derive(Clone, Copy, Debug, PartialEq, Eq)]
+#[derive(Clone, Copy)]
 pub enum GroupsFault {
     /// The first token with which the tokens so far begin no groups, by its number. The end of the text counts as a token.
     Unexpected { token: u32 },

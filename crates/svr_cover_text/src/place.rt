@@ -6,7 +6,7 @@ ghost use Rattle.svr_cover_text.specs.Machine as spec;
 use crate::word::{Key, Word};
 
 /// What comes next.
-#[derive(Clone, Copy, Debug, PartialEq, Eq)]
+#[derive(Clone, Copy, PartialEq, Eq)]
 pub(crate) enum Place {
     /// `covergroup`, or the end of the groups
     Between,
@@ -85,7 +85,7 @@ pub(crate) enum Place {
 }
 
 /// What a word adds to the groups.
-#[derive(Clone, Copy, Debug, PartialEq, Eq)]
+#[derive(Clone, Copy)]
 pub(crate) enum Deed {
     Skip,
     /// The name of a group
@@ -120,7 +120,7 @@ pub(crate) enum Deed {
 }
 
 /// Where a word leads, and what it adds.
-#[derive(Clone, Copy, Debug, PartialEq, Eq)]
+#[derive(Clone, Copy)]
 pub(crate) struct Move {
     pub(crate) place: Place,
     pub(crate) deed: Deed,

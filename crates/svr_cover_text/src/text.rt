@@ -3,14 +3,14 @@
 use sqlite_items::Items;
 
 /// `[ "-" ] digits`
-#[derive(Clone, Copy, Debug, PartialEq, Eq)]
+#[derive(Clone, Copy)]
 pub struct NumText {
     pub negative: bool,
     pub digits: u32,
 }
 
 /// A number, or `[ low : high ]`, with the first token of either.
-#[derive(Clone, Copy, Debug, PartialEq, Eq)]
+#[derive(Clone, Copy)]
 pub struct RangeText {
     pub at: u32,
     pub low: NumText,
@@ -18,7 +18,7 @@ pub struct RangeText {
 }
 
 /// `bins name = { ranges } ;`, where `each` tells of `[]` behind the name (IEEE 1800-2017, 19.5.1).
-#[derive(Debug, Drop)]
+#[derive(Drop)]
 pub struct BinsText {
     pub name: u32,
     pub each: bool,
@@ -26,7 +26,7 @@ pub struct BinsText {
 }
 
 /// A part of a group.
-#[derive(Debug, Drop)]
+#[derive(Drop)]
 pub enum PartText {
     /// `name : coverpoint formal . prop { bins }` (IEEE 1800-2017, 19.5)
     Point {
@@ -43,7 +43,7 @@ pub enum PartText {
 }
 
 /// `covergroup name with function sample ( class formal ) ; parts endgroup` (IEEE 1800-2017, 19.3 and 19.8.1)
-#[derive(Debug, Drop)]
+#[derive(Drop)]
 pub struct GroupText {
     pub name: u32,
     pub class: u32,
@@ -52,7 +52,7 @@ pub struct GroupText {
 }
 
 /// The groups at the beginning of a text, and how many tokens they take.
-#[derive(Debug, Drop)]
+#[derive(Drop)]
 pub struct GroupsText {
     pub list: Items<GroupText>,
     pub used: u32,

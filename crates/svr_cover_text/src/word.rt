@@ -8,7 +8,7 @@ ghost use Rattle.svr_cover_text.specs.declared.word.Word.{Word as WordType};
 use svr_token::{Lexeme, Mark, Token, lexeme_from};
 
 /// A word of a group that is a plain name anywhere else.
-#[derive(Clone, Copy, Debug, PartialEq, Eq)]
+#[derive(Clone, Copy, PartialEq, Eq)]
 pub(crate) enum Key {
     CoverGroup,
     Function,
@@ -21,7 +21,7 @@ pub(crate) enum Key {
 }
 
 /// What a token of a group says, with the number of the token where it is kept.
-#[derive(Clone, Copy, Debug, PartialEq, Eq)]
+#[derive(Clone, Copy, PartialEq, Eq)]
 pub(crate) enum Word {
     /// A plain name, which may be one of the words of a group.
     Name(Key, u32),

@@ -10,7 +10,7 @@ use std::alloc::{AllocError, Global};
 use svr_cover_steps::{Step, Steps};
 
 /// Stored values, both bounds with it. It has none where the lower one is the greater.
-#[derive(Clone, Copy, Debug, PartialEq, Eq)]
+#[derive(Clone, Copy, PartialEq, Eq)]
 pub struct Range {
     pub low: u64,
     pub high: u64,

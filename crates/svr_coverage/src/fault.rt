@@ -10,7 +10,7 @@ use svr_token::Token;
 use svr_typed::NoMemory;
 
 /// Why the cover groups of a text are refused.
-#[derive(Clone, Copy, Debug, PartialEq, Eq)]
+#[derive(Clone, Copy)]
 pub enum CoverageFault {
     /// A refusal by its number, and its place.
     Refused { number: u8, place: Place },

@@ -9,9 +9,11 @@ ghost use Rattle.svr_reader.specs.Answers.{Gives};
 ghost use Rattle.svr_reader.specs.Calls.{cap, height_view, heights_view};
 ghost use Rattle.svr_decl.specs.DeclRules as rules;
 
+use crate::held::let_go;
 use crate::reader::Reader;
 use sqlite_items::Items;
 use std::alloc::Global;
+use svr_item::block_items;
 use svr_reader::{Cursor, Fixed, ReadFault, until};
 use svr_token::{Mark, Word};
 use svr_tree::{ClassDecl, ClassItem, ConstraintBlock};
@@ -42,7 +44,7 @@ impl Reader {
     {
         let name = cursor.name()?;
         cursor.expect(Fixed::Mark(Mark::OpenBrace))?;
-        let (items, height) = self.block_items(cursor)?;
+        let (items, height) = block_items(self.alloc, cursor, self.room)?;
         Ok((ConstraintBlock { name, items }, height))
     }
 
@@ -80,13 +82,17 @@ impl Reader {
         let base = self.name_behind(cursor, Fixed::Word(Word::Extends))?;
         cursor.expect(Fixed::Mark(Mark::Semicolon))?;
         let (items, height) = self.class_items(cursor)?;
-        let (items, label) = self.label_behind(cursor, items, Fixed::Mark(Mark::Colon))?;
-        let found = ClassDecl {
-            name,
-            base,
-            items,
-            label,
-        };
-        Ok((found, height))
+        match self.name_behind(cursor, Fixed::Mark(Mark::Colon)) {
+            Ok(label) => {
+                let found = ClassDecl {
+                    name,
+                    base,
+                    items,
+                    label,
+                };
+                Ok((found, height))
+            }
+            Err(fault) => Err(let_go(items, fault)),
+        }
     }
 }

@@ -2,6 +2,7 @@
 #![tactic(auto)]
 
 mod classes;
+mod held;
 mod properties;
 mod reader;
 mod typedefs;

@@ -5,9 +5,9 @@ ghost use Rattle.svr_tree.specs.DeclTree.{dimension_tree, declarator_tree, prope
 ghost use Rattle.svr_reader.specs.Lists as lists;
 ghost use Rattle.svr_reader.specs.Answers.{Gives};
 ghost use Rattle.svr_reader.specs.Calls.{cap, height_view, heights_view};
-ghost use Rattle.svr_item.specs.Parts.{Behind};
 ghost use Rattle.svr_decl.specs.DeclRules as rules;
 
+use crate::held::let_go;
 use crate::reader::Reader;
 use sqlite_items::Items;
 use svr_item::{ended, pushed};
@@ -25,14 +25,17 @@ impl Reader {
     {
         let (first, first_height) = self.expression(cursor)?;
         if cursor.eat(Fixed::Mark(Mark::Colon)) {
-            let (first, (last, last_height)) = self.expression_behind(cursor, first)?;
-            let bounds = Dimension::Bounds(first, last);
-            let bounds = ended(cursor, bounds, Fixed::Mark(Mark::CloseBracket))?;
-            Ok((bounds, first_height.max(last_height)))
+            match self.expression(cursor) {
+                Ok((last, last_height)) => {
+                    let bounds = Dimension::Bounds(first, last);
+                    let found = (bounds, first_height.max(last_height));
+                    ended(cursor, found, Fixed::Mark(Mark::CloseBracket))
+                }
+                Err(fault) => Err(let_go(first, fault)),
+            }
         } else {
-            let size = Dimension::Size(first);
-            let size = ended(cursor, size, Fixed::Mark(Mark::CloseBracket))?;
-            Ok((size, first_height))
+            let found = (Dimension::Size(first), first_height);
+            ended(cursor, found, Fixed::Mark(Mark::CloseBracket))
         }
     }
 
@@ -46,25 +49,10 @@ impl Reader {
             return Ok((Dimension::Dynamic, 0));
         }
         if cursor.eat(Fixed::Mark(Mark::Dollar)) {
-            cursor.expect(Fixed::Mark(Mark::CloseBracket))?;
-            return Ok((Dimension::Queue, 0));
+            let found = (Dimension::Queue, 0);
+            return ended(cursor, found, Fixed::Mark(Mark::CloseBracket));
         }
         self.size_or_bounds(cursor)
-    }
-
-    /// A dimension behind `[`, behind what was found.
-    fn dimension_behind<T: Drop>(
-        &self,
-        cursor: &mut Cursor<'_>,
-        found: T,
-    ) -> Result<(T, (Dimension, usize)), ReadFault>
-        ensures gives { Behind found (height_view dimension_tree) (rules.within cap self.now.room rules.dimension cursor.old) result cursor.new }
-        ensures low { IfOk result (λ x. x.1.1 ≤ self.now.room) }
-    {
-        match self.dimension(cursor) {
-            Ok(next) => Ok((found, next)),
-            Err(fault) => Err(fault),
-        }
     }
 
     // The dimensions behind the first one, with it: one more at most.
@@ -81,9 +69,13 @@ impl Reader {
     {
         let dims = pushed(Items::new(self.alloc), outer)?;
         if cursor.eat(Fixed::Mark(Mark::OpenBracket)) {
-            let (dims, (inner, inner_height)) = self.dimension_behind(cursor, dims)?;
-            let dims = pushed(dims, inner)?;
-            Ok((dims, outer_height.max(inner_height)))
+            match self.dimension(cursor) {
+                Ok((inner, inner_height)) => {
+                    let dims = pushed(dims, inner)?;
+                    Ok((dims, outer_height.max(inner_height)))
+                }
+                Err(fault) => Err(let_go(dims, fault)),
+            }
         } else {
             Ok((dims, outer_height))
         }
@@ -110,9 +102,13 @@ impl Reader {
     {
         let name = cursor.name()?;
         let (dims, dims_height) = self.dimensions(cursor)?;
-        let (dims, (value, value_height)) = self.initial_behind(cursor, dims)?;
-        let height = dims_height.max(value_height);
-        Ok((Declarator { name, dims, value }, height))
+        match self.initial(cursor) {
+            Ok((value, value_height)) => {
+                let height = dims_height.max(value_height);
+                Ok((Declarator { name, dims, value }, height))
+            }
+            Err(fault) => Err(let_go(dims, fault)),
+        }
     }
 
     fn declarators(&self, cursor: &mut Cursor<'_>) -> Result<(Items<Declarator>, usize), ReadFault>
@@ -120,21 +116,6 @@ impl Reader {
         ensures low { IfOk result (λ x. x.1 ≤ self.now.room) }
     {
         listing(self.alloc, cursor, |cursor| self.declarator(cursor))
-    }
-
-    /// Declarators behind what was found.
-    fn declarators_behind<T: Drop>(
-        &self,
-        cursor: &mut Cursor<'_>,
-        found: T,
-    ) -> Result<(T, (Items<Declarator>, usize)), ReadFault>
-        ensures gives { Behind found (heights_view declarator_tree) (rules.within cap self.now.room (lists.listing rules.declarator) cursor.old) result cursor.new }
-        ensures low { IfOk result (λ x. x.1.1 ≤ self.now.room) }
-    {
-        match self.declarators(cursor) {
-            Ok(next) => Ok((found, next)),
-            Err(fault) => Err(fault),
-        }
     }
 
     // Behind the qualifier.
@@ -148,10 +129,14 @@ impl Reader {
         ensures low { IfOk result (λ x. x.1 ≤ self.now.room) }
     {
         let (kind, kind_height) = self.data_type(cursor)?;
-        let (kind, (decls, decls_height)) = self.declarators_behind(cursor, kind)?;
-        let found = PropertyDecl { rand, kind, decls };
-        let found = ended(cursor, found, Fixed::Mark(Mark::Semicolon))?;
-        Ok((found, kind_height.max(decls_height)))
+        match self.declarators(cursor) {
+            Ok((decls, decls_height)) => {
+                let height = kind_height.max(decls_height);
+                let found = (PropertyDecl { rand, kind, decls }, height);
+                ended(cursor, found, Fixed::Mark(Mark::Semicolon))
+            }
+            Err(fault) => Err(let_go(kind, fault)),
+        }
     }
 
     /// IEEE 1800-2017, A.1.9: `class_property`

@@ -6,9 +6,9 @@ ghost use Rattle.svr_tree.specs.DeclTree.{integer_tree, member_tree, definition_
 ghost use Rattle.svr_reader.specs.Lists as lists;
 ghost use Rattle.svr_reader.specs.Answers.{Gives};
 ghost use Rattle.svr_reader.specs.Calls.{cap, height_view, heights_view};
-ghost use Rattle.svr_item.specs.Parts.{Behind};
 ghost use Rattle.svr_decl.specs.DeclRules as rules;
 
+use crate::held::let_go;
 use crate::reader::Reader;
 use crate::types::starts_type;
 use sqlite_items::Items;
@@ -50,21 +50,6 @@ impl Reader {
         }
     }
 
-    /// `[= value]` behind what was found.
-    pub fn initial_behind<T: Drop>(
-        &self,
-        cursor: &mut Cursor<'_>,
-        found: T,
-    ) -> Result<(T, (Option<Expr>, usize)), ReadFault>
-        ensures gives { Behind found (height_view (option_map expr_tree)) (rules.within cap self.now.room rules.initial cursor.old) result cursor.new }
-        ensures low { IfOk result (λ x. x.1.1 ≤ self.now.room) }
-    {
-        match self.initial(cursor) {
-            Ok(next) => Ok((found, next)),
-            Err(fault) => Err(fault),
-        }
-    }
-
     #[tactic(auto, unfolding(crate::specs::DeclRules::member))]
     fn member(&self, cursor: &mut Cursor<'_>) -> Result<(MemberDecl, usize), ReadFault>
         ensures gives { Gives (height_view member_tree) (rules.within cap self.now.room rules.member cursor.old) result cursor.new }
@@ -80,21 +65,6 @@ impl Reader {
         ensures low { IfOk result (λ x. x.1 ≤ self.now.room) }
     {
         listing(self.alloc, cursor, |cursor| self.member(cursor))
-    }
-
-    /// The members of an enum behind what was found.
-    fn members_behind<T: Drop>(
-        &self,
-        cursor: &mut Cursor<'_>,
-        found: T,
-    ) -> Result<(T, (Items<MemberDecl>, usize)), ReadFault>
-        ensures gives { Behind found (heights_view member_tree) (rules.within cap self.now.room (lists.listing rules.member) cursor.old) result cursor.new }
-        ensures low { IfOk result (λ x. x.1.1 ≤ self.now.room) }
-    {
-        match self.members(cursor) {
-            Ok(next) => Ok((found, next)),
-            Err(fault) => Err(fault),
-        }
     }
 
     #[tactic(auto, unfolding(crate::specs::DeclRules::enum_base, crate::specs::DeclRules::written_base))]
@@ -118,10 +88,14 @@ impl Reader {
     {
         let (base, base_height) = self.enum_base(cursor)?;
         let base = ended(cursor, base, Fixed::Mark(Mark::OpenBrace))?;
-        let (base, (members, members_height)) = self.members_behind(cursor, base)?;
-        let found = TypeDefinition::Enum(EnumDecl { base, members });
-        let found = ended(cursor, found, Fixed::Mark(Mark::CloseBrace))?;
-        Ok((found, base_height.max(members_height)))
+        match self.members(cursor) {
+            Ok((members, members_height)) => {
+                let found = TypeDefinition::Enum(EnumDecl { base, members });
+                let found = (found, base_height.max(members_height));
+                ended(cursor, found, Fixed::Mark(Mark::CloseBrace))
+            }
+            Err(fault) => Err(let_go(base, fault)),
+        }
     }
 
     #[tactic(auto, unfolding(crate::specs::DeclRules::definition, crate::specs::DeclRules::plain_definition))]
@@ -145,8 +119,7 @@ impl Reader {
         cursor.expect(Fixed::Word(Word::TypeDef))?;
         let (definition, height) = self.definition(cursor)?;
         let (definition, name) = named(cursor, definition)?;
-        let found = TypeDecl { definition, name };
-        let found = ended(cursor, found, Fixed::Mark(Mark::Semicolon))?;
-        Ok((found, height))
+        let found = (TypeDecl { definition, name }, height);
+        ended(cursor, found, Fixed::Mark(Mark::Semicolon))
     }
 }

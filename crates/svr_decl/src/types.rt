@@ -6,6 +6,7 @@ ghost use Rattle.svr_reader.specs.Answers.{Answers, Gives};
 ghost use Rattle.svr_reader.specs.Calls.{cap, height_view};
 ghost use Rattle.svr_decl.specs.DeclRules as rules;
 
+use crate::held::let_go;
 use crate::reader::Reader;
 use svr_item::ended;
 use svr_reader::{Cursor, Fixed, ReadFault};
@@ -69,10 +70,14 @@ impl Reader {
     {
         let (msb, msb_height) = self.expression(cursor)?;
         let msb = ended(cursor, msb, Fixed::Mark(Mark::Colon))?;
-        let (msb, (lsb, lsb_height)) = self.expression_behind(cursor, msb)?;
-        let range = PackedRange { at, msb, lsb };
-        let range = ended(cursor, range, Fixed::Mark(Mark::CloseBracket))?;
-        Ok((Some(range), msb_height.max(lsb_height)))
+        match self.expression(cursor) {
+            Ok((lsb, lsb_height)) => {
+                let range = PackedRange { at, msb, lsb };
+                let found = (Some(range), msb_height.max(lsb_height));
+                ended(cursor, found, Fixed::Mark(Mark::CloseBracket))
+            }
+            Err(fault) => Err(let_go(msb, fault)),
+        }
     }
 
     #[tactic(auto, unfolding(crate::specs::DeclRules::packed))]

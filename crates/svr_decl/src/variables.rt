@@ -5,9 +5,9 @@ ghost use Rattle.svr_tree.specs.DeclTree.{type_tree, var_init_tree, var_declarat
 ghost use Rattle.svr_reader.specs.Lists as lists;
 ghost use Rattle.svr_reader.specs.Answers.{Gives};
 ghost use Rattle.svr_reader.specs.Calls.{cap, height_view, heights_view};
-ghost use Rattle.svr_item.specs.Parts.{Behind};
 ghost use Rattle.svr_decl.specs.DeclRules as rules;
 
+use crate::held::let_go;
 use crate::reader::Reader;
 use sqlite_items::Items;
 use std::alloc::Global;
@@ -52,30 +52,21 @@ pub fn var_on(
 }
 
 impl Reader {
-    // Behind `=`.
-    #[tactic(auto, unfolding(crate::specs::DeclRules::var_value))]
-    fn var_value(&self, cursor: &mut Cursor<'_>) -> Result<(Option<VarInit>, usize), ReadFault>
-        ensures gives { Gives (height_view (option_map var_init_tree)) (rules.within cap self.now.room rules.var_value cursor.old) result cursor.new }
+    // `[= value]`, `[= new]` or `[= new()]`
+    #[tactic(auto, unfolding(crate::specs::DeclRules::var_initial, crate::specs::DeclRules::var_value))]
+    fn var_initial(&self, cursor: &mut Cursor<'_>) -> Result<(Option<VarInit>, usize), ReadFault>
+        ensures gives { Gives (height_view (option_map var_init_tree)) (rules.within cap self.now.room rules.var_initial cursor.old) result cursor.new }
         ensures low { IfOk result (λ x. x.1 ≤ self.now.room) }
     {
+        if !cursor.eat(Fixed::Mark(Mark::Assign)) {
+            return Ok((None, 0));
+        }
         if cursor.eat(Fixed::Word(Word::New)) {
             let parens = self.parens(cursor)?;
             Ok((Some(VarInit::New { parens }), 0))
         } else {
             let (value, height) = self.expression(cursor)?;
             Ok((Some(VarInit::Value(value)), height))
-        }
-    }
-
-    #[tactic(auto, unfolding(crate::specs::DeclRules::var_initial))]
-    fn var_initial(&self, cursor: &mut Cursor<'_>) -> Result<(Option<VarInit>, usize), ReadFault>
-        ensures gives { Gives (height_view (option_map var_init_tree)) (rules.within cap self.now.room rules.var_initial cursor.old) result cursor.new }
-        ensures low { IfOk result (λ x. x.1 ≤ self.now.room) }
-    {
-        if cursor.eat(Fixed::Mark(Mark::Assign)) {
-            self.var_value(cursor)
-        } else {
-            Ok((None, 0))
         }
     }
 
@@ -99,21 +90,6 @@ impl Reader {
         listing(self.alloc, cursor, |cursor| self.var_declarator(cursor))
     }
 
-    /// Variables with commas between them, behind what was found.
-    fn var_declarators_behind<T: Drop>(
-        &self,
-        cursor: &mut Cursor<'_>,
-        found: T,
-    ) -> Result<(T, (Items<VarDeclarator>, usize)), ReadFault>
-        ensures gives { Behind found (heights_view var_declarator_tree) (rules.within cap self.now.room (lists.listing rules.var_declarator) cursor.old) result cursor.new }
-        ensures low { IfOk result (λ x. x.1.1 ≤ self.now.room) }
-    {
-        match self.var_declarators(cursor) {
-            Ok(next) => Ok((found, next)),
-            Err(fault) => Err(fault),
-        }
-    }
-
     // Behind the type.
     #[tactic(auto, unfolding(crate::specs::DeclRules::vars_on))]
     fn vars_on(
@@ -126,10 +102,13 @@ impl Reader {
         ensures gives { Gives (height_view var_tree) (rules.within cap self.now.room (rules.vars_on (height_view type_tree (kind, kind_height))) cursor.old) result cursor.new }
         ensures low { IfOk result (λ x. x.1 ≤ self.now.room) }
     {
-        let (kind, (vars, vars_height)) = self.var_declarators_behind(cursor, kind)?;
-        let found = VarDecl { kind, vars };
-        let found = ended(cursor, found, Fixed::Mark(Mark::Semicolon))?;
-        Ok((found, kind_height.max(vars_height)))
+        match self.var_declarators(cursor) {
+            Ok((vars, vars_height)) => {
+                let found = (VarDecl { kind, vars }, kind_height.max(vars_height));
+                ended(cursor, found, Fixed::Mark(Mark::Semicolon))
+            }
+            Err(fault) => Err(let_go(kind, fault)),
+        }
     }
 
     #[tactic(auto, unfolding(crate::specs::DeclRules::var_in))]

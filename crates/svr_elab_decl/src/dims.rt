@@ -22,7 +22,7 @@ use svr_tree::{Dimension, Expr};
 use svr_typed::NoMemory;
 
 /// What is known of the dimensions of a property.
-#[derive(Clone, Copy, Debug, PartialEq, Eq)]
+#[derive(Clone, Copy)]
 pub struct DimsPart {
     pub dims: Dims,
     pub fault: Option<Fault>,

@@ -28,7 +28,7 @@ use svr_tree::Expr;
 use svr_typed::{NoMemory, TExpr};
 
 /// What an initial value stores, 0 where there is none or it is refused.
-#[derive(Clone, Copy, Debug, PartialEq, Eq)]
+#[derive(Clone, Copy)]
 pub struct InitialPart {
     pub number: u64,
     pub fault: Option<Fault>,

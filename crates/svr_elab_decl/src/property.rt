@@ -14,7 +14,7 @@ use svr_operator::Rand;
 use svr_refusal::Refusal;
 
 /// What stands before a property: how many properties and arrays its class has, whether a base or the class itself has its name, and whether its type has too many values for `randc`.
-#[derive(Clone, Copy, Debug, PartialEq, Eq)]
+#[derive(Clone, Copy, PartialEq, Eq)]
 pub struct Before {
     pub props: usize,
     pub arrays: usize,

@@ -20,7 +20,7 @@ use svr_tree::{DataType, IntegerType};
 use svr_typed::{EnumType, NoMemory};
 
 /// A type as it is used: of numbers, a class by its number, or a name that stands for no type.
-#[derive(Clone, Copy, Debug, PartialEq, Eq)]
+#[derive(Clone, Copy)]
 pub enum Used {
     Numbers(Option<Vector>),
     Objects(u32),
@@ -60,7 +60,7 @@ impl Used {
 }
 
 /// What is known of a type that is used.
-#[derive(Clone, Copy, Debug, PartialEq, Eq)]
+#[derive(Clone, Copy)]
 pub struct UsedPart {
     pub used: Used,
     pub fault: Option<Fault>,

@@ -38,6 +38,13 @@ pub inside_is : (at : ℕ) (r a x : Elab (Option Fault)) (s y : RangesElab (Opti
 inside_is at r a x s y h e f =
     h ∙ ap (λ (a : Elab (Option Fault)). spec.inside_part first_one at a s) e ∙ ap (λ (s : RangesElab (Option Fault)). spec.inside_part first_one at x s) f
 
+pub index_is : (at : ℕ) (call : Bool) (r p a b x y : Elab (Option Fault)) → r ≡ spec.with_parens first_one call p → p ≡ spec.index_part first_one at a b → a ≡ x → b ≡ y
+    → r ≡ spec.with_parens first_one call (spec.index_part first_one at x y)
+index_is at call r p a b x y h k e f =
+    h ∙ ap (λ (p : Elab (Option Fault)). spec.with_parens first_one call p) k
+    ∙ ap (λ (a : Elab (Option Fault)). spec.with_parens first_one call (spec.index_part first_one at a b)) e
+    ∙ ap (λ (b : Elab (Option Fault)). spec.with_parens first_one call (spec.index_part first_one at x b)) f
+
 pub slice_is : (at : ℕ) (call : Bool) (r p a b d x y z : Elab (Option Fault)) → r ≡ spec.with_parens first_one call p → p ≡ spec.slice_part first_one at a b d → a ≡ x → b ≡ y → d ≡ z
     → r ≡ spec.with_parens first_one call (spec.slice_part first_one at x y z)
 slice_is at call r p a b d x y z h k e f g =

@@ -10,6 +10,7 @@ ghost use Rattle.svr_elab_part.specs.Seen.{part_of, parts_of, range_part_of, ran
 ghost use Rattle.svr_elab_part.specs.Fits.{MembersFit, LiteralsFit, AllFit, RangesFit, RangeFits, BoundFits, LoopsFit, AllLoopsFit, RangesLoopsFit, RangeLoopsFit, BoundLoopsFit};
 
 use crate::held::{beside, both};
+use sqlite_items::Boxed;
 use std::alloc::Global;
 use svr_elab_form::{
     and_part, and_range, binary_part, choice_part, copies_part, dollar_bound, index_part,
@@ -80,45 +81,33 @@ pub fn elab(alloc: Global, e: &Expr, names: &NameSpace<'_, '_>) -> Result<Part, 
             last,
             call,
         } => match last {
-            None => index(alloc, *at, base.get(), first.get(), *call, names),
-            Some(last) => slice(
-                alloc,
-                *at,
-                base.get(),
-                first.get(),
-                last.get(),
-                *call,
-                names,
-            ),
+            None => index(alloc, *at, base, first, *call, names),
+            Some(last) => slice(alloc, *at, base, first, last, *call, names),
         },
-        Expr::Unary { at, op, arg } => unary(alloc, *at, *op, arg.get(), names),
+        Expr::Unary { at, op, arg } => unary(alloc, *at, *op, arg, names),
         Expr::Binary {
             at,
             op,
             left,
             right,
-        } => binary(alloc, *at, *op, left.get(), right.get(), names),
-        Expr::Choice { at, test, yes, no } => {
-            choice(alloc, *at, test.get(), yes.get(), no.get(), names)
-        }
-        Expr::Inside { at, left, set } => {
-            membership(alloc, *at, set.as_slice(), left.get(), names)
-        }
+        } => binary(alloc, *at, *op, left, right, names),
+        Expr::Choice { at, test, yes, no } => choice(alloc, *at, test, yes, no, names),
+        Expr::Inside { at, left, set } => { membership(alloc, *at, set.as_slice(), left, names) }
         Expr::Join { at, parts: list } => concatenation(alloc, *at, list.as_slice(), names),
         Expr::Copies {
             at,
             count,
             parts: list,
-        } => replication(alloc, *at, list.as_slice(), count.get(), names),
-        Expr::Sign { at, signed, arg } => conversion(alloc, *at, *signed, arg.get(), names),
-        Expr::Paren { at, arg } => parenthesized(alloc, *at, arg.get(), names),
+        } => replication(alloc, *at, list.as_slice(), count, names),
+        Expr::Sign { at, signed, arg } => conversion(alloc, *at, *signed, arg, names),
+        Expr::Paren { at, arg } => parenthesized(alloc, *at, arg, names),
         Expr::Reduce {
             at,
             array,
             op,
             item,
             body,
-        } => reduction(alloc, *at, array.get(), *op, *item, body.get(), names),
+        } => reduction(alloc, *at, array, *op, *item, body, names),
     }
 }
 
@@ -128,7 +117,7 @@ fn unary(
     alloc: Global,
     at: u32,
     op: UnOp,
-    arg: &Expr,
+    arg: &Boxed<Expr>,
     names: &NameSpace<'_, '_>,
 ) -> Result<Part, NoMemory>
     requires vars { length names.now.vars.now.entries < 2 ^ 32 }
@@ -137,7 +126,7 @@ fn unary(
     requires literals { LiteralsFit (tree.unary at op (expr_tree arg.now)) }
     ensures { IfOk result (λ p. part_of p ≡ spec.elab first_one (space_of names.now) (tree.unary at op (expr_tree arg.now))) }
 {
-    let arg = value(alloc, arg, names)?;
+    let arg = value(alloc, arg.get(), names)?;
     Ok(unary_part(alloc, at, op, arg)?)
 }
 
@@ -147,7 +136,7 @@ fn conversion(
     alloc: Global,
     at: u32,
     signed: bool,
-    arg: &Expr,
+    arg: &Boxed<Expr>,
     names: &NameSpace<'_, '_>,
 ) -> Result<Part, NoMemory>
     requires vars { length names.now.vars.now.entries < 2 ^ 32 }
@@ -156,7 +145,7 @@ fn conversion(
     requires literals { LiteralsFit (tree.sign at signed (expr_tree arg.now)) }
     ensures { IfOk result (λ p. part_of p ≡ spec.elab first_one (space_of names.now) (tree.sign at signed (expr_tree arg.now))) }
 {
-    let arg = value(alloc, arg, names)?;
+    let arg = value(alloc, arg.get(), names)?;
     Ok(sign_part(alloc, at, signed, arg)?)
 }
 
@@ -165,7 +154,7 @@ fn conversion(
 fn parenthesized(
     alloc: Global,
     at: u32,
-    arg: &Expr,
+    arg: &Boxed<Expr>,
     names: &NameSpace<'_, '_>,
 ) -> Result<Part, NoMemory>
     requires vars { length names.now.vars.now.entries < 2 ^ 32 }
@@ -174,7 +163,7 @@ fn parenthesized(
     requires literals { LiteralsFit (tree.paren at (expr_tree arg.now)) }
     ensures { IfOk result (λ p. part_of p ≡ spec.elab first_one (space_of names.now) (tree.paren at (expr_tree arg.now))) }
 {
-    let arg = elab(alloc, arg, names)?;
+    let arg = elab(alloc, arg.get(), names)?;
     Ok(paren_part(at, sole(arg)))
 }
 
@@ -201,8 +190,8 @@ fn concatenation(
 fn index(
     alloc: Global,
     at: u32,
-    base: &Expr,
-    first: &Expr,
+    base: &Boxed<Expr>,
+    first: &Boxed<Expr>,
     call: bool,
     names: &NameSpace<'_, '_>,
 ) -> Result<Part, NoMemory>
@@ -212,7 +201,10 @@ fn index(
     requires literals { LiteralsFit (tree.bit_select at (expr_tree base.now) (expr_tree first.now) call) }
     ensures { IfOk result (λ p. part_of p ≡ spec.elab first_one (space_of names.now) (tree.bit_select at (expr_tree base.now) (expr_tree first.now) call)) }
 {
-    let (base, index) = both(elab(alloc, base, names), value(alloc, first, names))?;
+    let (base, index) = both(
+        elab(alloc, base.get(), names),
+        value(alloc, first.get(), names),
+    )?;
     Ok(with_parens(call, index_part(alloc, at, base, index)?))
 }
 
@@ -221,9 +213,9 @@ fn index(
 fn slice(
     alloc: Global,
     at: u32,
-    base: &Expr,
-    first: &Expr,
-    last: &Expr,
+    base: &Boxed<Expr>,
+    first: &Boxed<Expr>,
+    last: &Boxed<Expr>,
     call: bool,
     names: &NameSpace<'_, '_>,
 ) -> Result<Part, NoMemory>
@@ -233,8 +225,11 @@ fn slice(
     requires literals { LiteralsFit (tree.part_select at (expr_tree base.now) (expr_tree first.now) (expr_tree last.now) call) }
     ensures { IfOk result (λ p. part_of p ≡ spec.elab first_one (space_of names.now) (tree.part_select at (expr_tree base.now) (expr_tree first.now) (expr_tree last.now) call)) }
 {
-    let known = both(value(alloc, base, names), value(alloc, first, names));
-    let ((base, first), last) = both(known, value(alloc, last, names))?;
+    let known = both(
+        value(alloc, base.get(), names),
+        value(alloc, first.get(), names),
+    );
+    let ((base, first), last) = both(known, value(alloc, last.get(), names))?;
     Ok(with_parens(call, slice_part(alloc, at, base, first, last)?))
 }
 
@@ -244,8 +239,8 @@ fn binary(
     alloc: Global,
     at: u32,
     op: BinOp,
-    left: &Expr,
-    right: &Expr,
+    left: &Boxed<Expr>,
+    right: &Boxed<Expr>,
     names: &NameSpace<'_, '_>,
 ) -> Result<Part, NoMemory>
     requires vars { length names.now.vars.now.entries < 2 ^ 32 }
@@ -254,7 +249,10 @@ fn binary(
     requires literals { LiteralsFit (tree.binary at op (expr_tree left.now) (expr_tree right.now)) }
     ensures { IfOk result (λ p. part_of p ≡ spec.elab first_one (space_of names.now) (tree.binary at op (expr_tree left.now) (expr_tree right.now))) }
 {
-    let (left, right) = both(value(alloc, left, names), value(alloc, right, names))?;
+    let (left, right) = both(
+        value(alloc, left.get(), names),
+        value(alloc, right.get(), names),
+    )?;
     Ok(binary_part(alloc, at, op, left, right)?)
 }
 
@@ -263,9 +261,9 @@ fn binary(
 fn choice(
     alloc: Global,
     at: u32,
-    test: &Expr,
-    yes: &Expr,
-    no: &Expr,
+    test: &Boxed<Expr>,
+    yes: &Boxed<Expr>,
+    no: &Boxed<Expr>,
     names: &NameSpace<'_, '_>,
 ) -> Result<Part, NoMemory>
     requires vars { length names.now.vars.now.entries < 2 ^ 32 }
@@ -274,8 +272,11 @@ fn choice(
     requires literals { LiteralsFit (tree.choice at (expr_tree test.now) (expr_tree yes.now) (expr_tree no.now)) }
     ensures { IfOk result (λ p. part_of p ≡ spec.elab first_one (space_of names.now) (tree.choice at (expr_tree test.now) (expr_tree yes.now) (expr_tree no.now))) }
 {
-    let known = both(value(alloc, test, names), value(alloc, yes, names));
-    let ((test, yes), no) = both(known, value(alloc, no, names))?;
+    let known = both(
+        value(alloc, test.get(), names),
+        value(alloc, yes.get(), names),
+    );
+    let ((test, yes), no) = both(known, value(alloc, no.get(), names))?;
     Ok(choice_part(alloc, at, test, yes, no)?)
 }
 
@@ -285,7 +286,7 @@ fn membership(
     alloc: Global,
     at: u32,
     set: &[Range],
-    left: &Expr,
+    left: &Boxed<Expr>,
     names: &NameSpace<'_, '_>,
 ) -> Result<Part, NoMemory>
     requires vars { length names.now.vars.now.entries < 2 ^ 32 }
@@ -294,7 +295,7 @@ fn membership(
     requires literals { LiteralsFit (tree.inside at (expr_tree left.now) (range_trees set.now)) }
     ensures { IfOk result (λ p. part_of p ≡ spec.elab first_one (space_of names.now) (tree.inside at (expr_tree left.now) (range_trees set.now))) }
 {
-    let left = value(alloc, left, names);
+    let left = value(alloc, left.get(), names);
     let set = ranges(alloc, set, names);
     let (left, set) = both(left, set)?;
     Ok(inside_part(alloc, at, left, set)?)
@@ -306,7 +307,7 @@ fn replication(
     alloc: Global,
     at: u32,
     list: &[Expr],
-    count: &Expr,
+    count: &Boxed<Expr>,
     names: &NameSpace<'_, '_>,
 ) -> Result<Part, NoMemory>
     requires vars { length names.now.vars.now.entries < 2 ^ 32 }
@@ -315,7 +316,7 @@ fn replication(
     requires literals { LiteralsFit (tree.copies at (expr_tree count.now) (expr_trees list.now)) }
     ensures { IfOk result (λ p. part_of p ≡ spec.elab first_one (space_of names.now) (tree.copies at (expr_tree count.now) (expr_trees list.now))) }
 {
-    let (count, list) = both(value(alloc, count, names), parts(alloc, list, names))?;
+    let (count, list) = both(value(alloc, count.get(), names), parts(alloc, list, names))?;
     Ok(copies_part(alloc, at, count, list)?)
 }
 
@@ -324,10 +325,10 @@ fn replication(
 fn reduction(
     alloc: Global,
     at: u32,
-    array: &Expr,
+    array: &Boxed<Expr>,
     fold: Fold,
     item: IteratorArgument,
-    body: &Expr,
+    body: &Boxed<Expr>,
     names: &NameSpace<'_, '_>,
 ) -> Result<Part, NoMemory>
     requires vars { length names.now.vars.now.entries < 2 ^ 32 }
@@ -336,8 +337,8 @@ fn reduction(
     requires literals { LiteralsFit (tree.reduce at (expr_tree array.now) fold item (expr_tree body.now)) }
     ensures { IfOk result (λ p. part_of p ≡ spec.elab first_one (space_of names.now) (tree.reduce at (expr_tree array.now) fold item (expr_tree body.now))) }
 {
-    let array = elab(alloc, array, names)?;
-    let body = reduced(alloc, &array, item, body, names);
+    let array = elab(alloc, array.get(), names)?;
+    let body = reduced(alloc, &array, item, body.get(), names);
     let (array, body) = beside(array, body)?;
     Ok(reduce_part(alloc, at, fold, sole(array), body)?)
 }

@@ -7,7 +7,7 @@ use std::alloc::AllocError;
 use svr_refusal::Refusal;
 
 /// A refusal and the token at which it stands.
-#[derive(Clone, Copy, Debug, PartialEq, Eq)]
+#[derive(Clone, Copy, PartialEq, Eq)]
 pub struct Fault {
     pub token: u32,
     pub refusal: Refusal,
@@ -48,7 +48,7 @@ pub fn first_is_first()
 {}
 
 /// Why a script has no design.
-#[derive(Debug, Drop)]
+#[derive(Drop)]
 pub enum ElabFault {
     /// The first refusal: its number, from 7 to 26, and the token at which it stands.
     Refused { number: u8, token: u32 },

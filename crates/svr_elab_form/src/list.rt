@@ -8,11 +8,12 @@ ghost use Rattle.svr_elab_part.specs.Elab as spec;
 ghost use Rattle.svr_elab_part.specs.Seen.{part_of, parts_of, range_part_of, ranges_part_of, bound_part_of, HasValue};
 ghost use Rattle.svr_elab_part.specs.Shapes as shapes;
 
+use crate::operator::node_part;
 use sqlite_items::Items;
 use std::alloc::Global;
 use svr_elab_fault::{Fault, earlier, when};
 use svr_elab_part::{
-    BoundPart, Form, Part, Parts, RangePart, RangesPart, Reads, Shape, known, total_shape, typed_as,
+    BoundPart, Part, Parts, RangePart, RangesPart, Reads, Shape, known, total_shape,
 };
 use svr_refusal::Refusal;
 use svr_typed::{NoMemory, TBound, TExpr, TNode, TRange};
@@ -98,17 +99,9 @@ pub fn join_part(at: u32, parts: Parts) -> Part
     ensures { part_of result ≡ spec.join_part first_one at (parts_of parts) }
 {
     let shape = total_shape(parts.total);
-    Part {
-        at,
-        shape,
-        tree: typed_as(shape, join_node(parts.trees)),
-        fault: earlier(
-            parts.fault,
-            when(is_wide(parts.total), at, Refusal::WiderThan64),
-        ),
-        reads: parts.reads,
-        form: Form::other(at),
-    }
+    let wide = when(is_wide(parts.total), at, Refusal::WiderThan64);
+    let fault = earlier(parts.fault, wide);
+    node_part(at, shape, join_node(parts.trees), fault, parts.reads)
 }
 
 /// The members of a set before the first of them.
@@ -233,15 +226,10 @@ fn inside_node(
 pub fn inside_part(alloc: Global, at: u32, left: Part, set: RangesPart) -> Result<Part, NoMemory>
     ensures { IfOk result (λ p. part_of p ≡ spec.inside_part first_one at (part_of left) (ranges_part_of set)) }
 {
-    let shape = Some(Shape::bit());
-    Ok(Part {
-        at,
-        shape,
-        tree: typed_as(shape, inside_node(alloc, left.tree, set.trees)?),
-        fault: earlier(left.fault, set.fault),
-        reads: left.reads.and(set.reads),
-        form: Form::other(at),
-    })
+    let node = inside_node(alloc, left.tree, set.trees)?;
+    let fault = earlier(left.fault, set.fault);
+    let reads = left.reads.and(set.reads);
+    Ok(node_part(at, Some(Shape::bit()), node, fault, reads))
 }
 
 fn copies_node(
@@ -312,13 +300,7 @@ pub fn copies_part(alloc: Global, at: u32, count: Part, parts: Parts) -> Result<
     let number = known(alloc, &count);
     let total = copies_total(number, parts.total);
     let fault = copies_fault(at, &count, &parts, is_too_few(number), total);
-    let shape = total_shape(total);
-    Ok(Part {
-        at,
-        shape,
-        tree: typed_as(shape, copies_node(alloc, count.tree, parts.trees)?),
-        fault,
-        reads: count.reads.and(parts.reads),
-        form: Form::other(at),
-    })
+    let node = copies_node(alloc, count.tree, parts.trees)?;
+    let reads = count.reads.and(parts.reads);
+    Ok(node_part(at, total_shape(total), node, fault, reads))
 }

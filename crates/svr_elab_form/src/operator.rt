@@ -7,10 +7,13 @@ ghost use Rattle.svr_elab_fault.specs.Refusals.{first_one};
 ghost use Rattle.svr_elab_part.specs.Elab as spec;
 ghost use Rattle.svr_elab_part.specs.Seen.{part_of};
 ghost use Rattle.svr_elab_part.specs.Shapes as shapes;
+ghost use Rattle.svr_elab_part.specs.Forms as forms;
 
 use std::alloc::Global;
-use svr_elab_fault::{earlier, when};
-use svr_elab_part::{Form, Part, binary_shape, choice_shape, sign_shape, typed_as, unary_shape};
+use svr_elab_fault::{Fault, earlier, when};
+use svr_elab_part::{
+    Form, Part, Reads, Shape, binary_shape, choice_shape, sign_shape, typed_as, unary_shape,
+};
 use svr_operator::{BinOp, UnOp};
 use svr_refusal::Refusal;
 use svr_typed::{NoMemory, TExpr, TNode};
@@ -110,19 +113,33 @@ fn choice_node(
     }
 }
 
+/// What is known of a node that is neither a path nor a select.
+pub(crate) fn node_part(
+    at: u32,
+    shape: Option<Shape>,
+    node: Option<TNode>,
+    fault: Option<Fault>,
+    reads: Reads,
+) -> Part
+    ensures { part_of result ≡ record { at = at; shape = shape; tree = shapes.typed_as shape (option_map node_term node); faults = fault; reads = reads; form = forms.other_form at } }
+{
+    Part {
+        at,
+        shape,
+        tree: typed_as(shape, node),
+        fault,
+        reads,
+        form: Form::other(at),
+    }
+}
+
 /// A unary operator (IEEE 1800-2017, 11.4).
 pub fn unary_part(alloc: Global, at: u32, op: UnOp, part: Part) -> Result<Part, NoMemory>
     ensures { IfOk result (λ p. part_of p ≡ spec.unary_part first_one at op (part_of part)) }
 {
     let shape = unary_shape(op, part.shape);
-    Ok(Part {
-        at,
-        shape,
-        tree: typed_as(shape, unary_node(alloc, op, part.tree)?),
-        fault: part.fault,
-        reads: part.reads,
-        form: Form::other(at),
-    })
+    let node = unary_node(alloc, op, part.tree)?;
+    Ok(node_part(at, shape, node, part.fault, part.reads))
 }
 
 /// A binary operator (IEEE 1800-2017, 11.4).
@@ -136,14 +153,9 @@ pub fn binary_part(
     ensures { IfOk result (λ p. part_of p ≡ spec.binary_part first_one at op (part_of left) (part_of right)) }
 {
     let shape = binary_shape(op, left.shape, right.shape);
-    Ok(Part {
-        at,
-        shape,
-        tree: typed_as(shape, binary_node(alloc, op, left.tree, right.tree)?),
-        fault: earlier(left.fault, right.fault),
-        reads: left.reads.and(right.reads),
-        form: Form::other(at),
-    })
+    let node = binary_node(alloc, op, left.tree, right.tree)?;
+    let fault = earlier(left.fault, right.fault);
+    Ok(node_part(at, shape, node, fault, left.reads.and(right.reads)))
 }
 
 /// `test ? yes : no` (IEEE 1800-2017, 11.4.11).
@@ -157,14 +169,10 @@ pub fn choice_part(
     ensures { IfOk result (λ p. part_of p ≡ spec.choice_part first_one at (part_of test) (part_of yes) (part_of no)) }
 {
     let shape = choice_shape(yes.shape, no.shape);
-    Ok(Part {
-        at,
-        shape,
-        tree: typed_as(shape, choice_node(alloc, test.tree, yes.tree, no.tree)?),
-        fault: earlier(test.fault, earlier(yes.fault, no.fault)),
-        reads: test.reads.and(yes.reads.and(no.reads)),
-        form: Form::other(at),
-    })
+    let node = choice_node(alloc, test.tree, yes.tree, no.tree)?;
+    let fault = earlier(test.fault, earlier(yes.fault, no.fault));
+    let reads = test.reads.and(yes.reads.and(no.reads));
+    Ok(node_part(at, shape, node, fault, reads))
 }
 
 /// `$signed` or `$unsigned` (IEEE 1800-2017, 20.5).
@@ -172,12 +180,6 @@ pub fn sign_part(alloc: Global, at: u32, signed: bool, part: Part) -> Result<Par
     ensures { IfOk result (λ p. part_of p ≡ spec.sign_part first_one at signed (part_of part)) }
 {
     let shape = sign_shape(signed, part.shape);
-    Ok(Part {
-        at,
-        shape,
-        tree: typed_as(shape, sign_node(alloc, signed, part.tree)?),
-        fault: part.fault,
-        reads: part.reads,
-        form: Form::other(at),
-    })
+    let node = sign_node(alloc, signed, part.tree)?;
+    Ok(node_part(at, shape, node, part.fault, part.reads))
 }

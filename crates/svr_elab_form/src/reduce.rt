@@ -5,9 +5,10 @@ ghost use Rattle.svr_elab_fault.specs.Refusals.{first_one};
 ghost use Rattle.svr_elab_part.specs.Elab as spec;
 ghost use Rattle.svr_elab_part.specs.Seen.{part_of};
 
+use crate::operator::node_part;
 use std::alloc::Global;
 use svr_elab_fault::{Fault, earlier, when};
-use svr_elab_part::{Form, Part, array_node, typed_as};
+use svr_elab_part::{Part, array_node};
 use svr_operator::Fold;
 use svr_refusal::Refusal;
 use svr_typed::NoMemory;
@@ -46,12 +47,5 @@ pub fn reduce_part(
     let (shape, root) = (body.shape, array.form.root);
     drop(array);
     let node = array_node(alloc, root, fold, body.tree)?;
-    Ok(Part {
-        at,
-        shape,
-        tree: typed_as(shape, node),
-        fault,
-        reads,
-        form: Form::other(at),
-    })
+    Ok(node_part(at, shape, node, fault, reads))
 }

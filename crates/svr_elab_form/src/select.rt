@@ -1,15 +1,16 @@
 // Elements and bits (IEEE 1800-2017, 7.4.6 and 11.5.1).
 
-ghost use Rattle.std.specs.Prelude.{◌≡◌, ◌<ℤ◌, ◌≤ℤ◌, ◌^◌, pos, negsuc, ◌||◌, min, IfOk, IfSome, option_map};
+ghost use Rattle.std.specs.Prelude.{◌≡◌, ◌<ℤ◌, ◌≤ℤ◌, ◌^◌, pos, negsuc, ◌||◌, if◌then◌else◌, min, IfOk, IfSome, option_map};
 ghost use Rattle.svr_typed.specs.ExprTerm.{expr_term, node_term};
 ghost use Rattle.svr_elab_fault.specs.Refusals.{first_one};
 ghost use Rattle.svr_elab_part.specs.Elab as spec;
 ghost use Rattle.svr_elab_part.specs.Seen.{part_of, HasValue};
+ghost use Rattle.svr_elab_part.specs.Forms as forms;
 ghost use Rattle.svr_elab_part.specs.Shapes as shapes;
 
 use std::alloc::Global;
 use svr_elab_fault::{Fault, earlier, when};
-use svr_elab_part::{Extent, Part, Shape, cell_tree, element_tree, known, typed_as};
+use svr_elab_part::{Extent, Part, Root, Shape, cell_tree, element_tree, known, typed_as};
 use svr_refusal::Refusal;
 use svr_typed::{NoMemory, TExpr, TNode};
 
@@ -21,21 +22,6 @@ fn random_at(index: &Part) -> Option<u32>
         Some(index.at)
     } else {
         None
-    }
-}
-
-/// One index behind an array of two dimensions, which waits for the second.
-fn row_part(at: u32, base: Part, index: Part) -> Part
-    ensures { part_of result ≡ spec.row_part first_one at (part_of base) (part_of index) }
-{
-    let random = random_at(&index);
-    Part {
-        at,
-        shape: base.shape,
-        tree: index.tree,
-        fault: earlier(base.fault, index.fault),
-        reads: base.reads.and(index.reads).no_constant(),
-        form: base.form.indexed(Extent::Row, random),
     }
 }
 
@@ -51,25 +37,6 @@ fn cell_part(alloc: Global, at: u32, base: Part, index: Part) -> Result<Part, No
         fault: earlier(base.fault, index.fault),
         reads: base.reads.and(index.reads).no_constant(),
         form: base.form.indexed(Extent::Single, random),
-    })
-}
-
-/// An index behind an array of one dimension.
-fn element_part(alloc: Global, at: u32, base: Part, index: Part) -> Result<Part, NoMemory>
-    ensures { IfOk result (λ p. part_of p ≡ spec.element_part first_one at (part_of base) (part_of index)) }
-{
-    let random = random_at(&index);
-    let fault = earlier(base.fault, index.fault);
-    let reads = base.reads.and(index.reads).no_constant();
-    let (shape, form) = (base.shape, base.form);
-    drop(base);
-    Ok(Part {
-        at,
-        shape,
-        tree: element_tree(alloc, form.root, index.tree)?,
-        fault,
-        reads,
-        form: form.indexed(Extent::Single, random),
     })
 }
 
@@ -117,15 +84,41 @@ fn bit_part(alloc: Global, at: u32, base: Part, index: Part) -> Result<Part, NoM
     })
 }
 
-/// An index behind a whole array.
+/// The tree of an element, or that of the index of a row, which waits for the second one.
+fn array_tree(
+    alloc: Global,
+    extent: Extent,
+    root: Root,
+    index: Option<TExpr>,
+) -> Result<Option<TExpr>, NoMemory>
+    ensures { IfOk result (λ t. option_map expr_term t ≡ (if forms.is_row extent then option_map expr_term index else shapes.element_tree root (option_map expr_term index))) }
+{
+    if extent.is_row() {
+        Ok(index)
+    } else {
+        element_tree(alloc, root, index)
+    }
+}
+
+/// An index behind a whole array, for an element or a row.
 fn array_part(alloc: Global, at: u32, base: Part, index: Part) -> Result<Part, NoMemory>
     ensures { IfOk result (λ p. part_of p ≡ spec.array_part first_one at (part_of base) (part_of index)) }
 {
-    if Extent::of_element(base.form.root.property().dims).is_row() {
-        Ok(row_part(at, base, index))
-    } else {
-        element_part(alloc, at, base, index)
-    }
+    let extent = Extent::of_element(base.form.root.property().dims);
+    let random = random_at(&index);
+    let fault = earlier(base.fault, index.fault);
+    let reads = base.reads.and(index.reads).no_constant();
+    let (shape, form) = (base.shape, base.form);
+    drop(base);
+    let tree = array_tree(alloc, extent, form.root, index.tree)?;
+    Ok(Part {
+        at,
+        shape,
+        tree,
+        fault,
+        reads,
+        form: form.indexed(extent, random),
+    })
 }
 
 /// `base[index]`: an element or a row of an array, or else a bit.

@@ -15,7 +15,7 @@ use svr_elab_part::{Part, Shape};
 use svr_typed::{TDistItem, TExpr, TItem};
 
 /// The guards and loops around an item.
-#[derive(Clone, Copy, Debug, PartialEq, Eq)]
+#[derive(Clone, Copy)]
 pub struct Around {
     /// The first token of the outermost guard that reads a property that can be random, or the size of one.
     pub open_guard: Option<u32>,

@@ -7,14 +7,14 @@ use svr_operator::{Fold, Rand};
 use svr_typed::NumType;
 
 /// An integral type, with the lowest bit number of its declared range.
-#[derive(Clone, Copy, Debug, PartialEq, Eq)]
+#[derive(Clone, Copy, PartialEq, Eq)]
 pub struct Vector {
     pub kind: NumType,
     pub low: i64,
 }
 
 /// Whether a property is an array (IEEE 1800-2017, clause 7). A dimension whose size is refused has no size.
-#[derive(Clone, Copy, Debug, PartialEq, Eq)]
+#[derive(Clone, Copy, PartialEq, Eq)]
 pub enum Dims {
     Scalar,
     /// A fixed array of this many elements.
@@ -26,7 +26,7 @@ pub enum Dims {
 }
 
 /// A property: its place in flat order, the class that declares it, its type where that is not refused, and whether it can be random.
-#[derive(Clone, Copy, Debug, PartialEq, Eq)]
+#[derive(Clone, Copy, PartialEq, Eq)]
 pub struct Property {
     pub number: u32,
     pub home: u32,
@@ -37,7 +37,7 @@ pub struct Property {
 }
 
 /// What a path stands for. `object` is the object variable whose property it is, in a statement.
-#[derive(Clone, Copy, Debug, PartialEq, Eq)]
+#[derive(Clone, Copy)]
 pub enum Meaning {
     /// Nothing, from this name on.
     Wrong {
@@ -84,7 +84,7 @@ pub enum Meaning {
 }
 
 /// What a path stands for, and the name of an object variable in it that has no object there.
-#[derive(Clone, Copy, Debug, PartialEq, Eq)]
+#[derive(Clone, Copy)]
 pub struct Found {
     pub meaning: Meaning,
     pub unmade: Option<u32>,

@@ -6,7 +6,7 @@ use sqlite_items::Items;
 use svr_token::Names;
 
 /// Where an expression stands: in a typedef or a property's declaration, a constraint block, an in-line set of constraints, or a statement.
-#[derive(Clone, Copy, Debug, PartialEq, Eq)]
+#[derive(Clone, Copy, PartialEq, Eq)]
 pub enum Region {
     Declaration,
     Block,
@@ -15,7 +15,7 @@ pub enum Region {
 }
 
 /// What a global name stands for: a type, without its kind where its declaration is refused; a class by its number; an enum member with its stored bits.
-#[derive(Clone, Copy, Debug, PartialEq, Eq)]
+#[derive(Clone, Copy, PartialEq, Eq)]
 pub enum Global {
     OfType(Option<Vector>),
     OfClass(u32),
@@ -23,14 +23,14 @@ pub enum Global {
 }
 
 /// What a script variable is: one of numbers, or an object variable of this class.
-#[derive(Clone, Copy, Debug, PartialEq, Eq)]
+#[derive(Clone, Copy, PartialEq, Eq)]
 pub enum VarStand {
     OfNumber(Option<Vector>),
     OfObject(u32),
 }
 
 /// A property and its initial value, as stored bits.
-#[derive(Clone, Copy, Debug, PartialEq, Eq)]
+#[derive(Clone, Copy, PartialEq, Eq)]
 pub struct PropEntry {
     pub property: Property,
     pub first: u64,
@@ -47,7 +47,7 @@ pub struct ClassNames<'a> {
 }
 
 /// The name of a loop: a loop variable of `foreach`, or with `item` the element of that array in a reduction.
-#[derive(Clone, Copy, Debug, PartialEq, Eq)]
+#[derive(Clone, Copy)]
 pub struct LoopName<'a> {
     pub name: &'a [u8],
     pub item: Option<Property>,

@@ -4,3 +4,4 @@ pub mod Sources
 pub mod Loops
 pub mod Firsts
 pub mod Bounds
+pub mod Empties

@@ -1,9 +1,9 @@
 -- What is settled is founded, and stays so as more is.
-use Rattle.std.proofs.Common.{◌≡◌, ℕ, ◌+◌, ◌<◌, Bool, true, false, cond, List, length, sym, ap, ◌∙◌, subst, arith, inl, inr, ⊎_elim, ◌⊎◌, get_or, replicate}
+use Rattle.std.proofs.Common.{◌≡◌, ℕ, ◌+◌, ◌*◌, ◌<◌, [], ◌∷◌, ◌++◌, Bool, true, false, cond, List, length, sym, ap, ◌∙◌, subst, arith, inl, inr, ⊎_elim, ◌⊎◌, get_or, replicate}
 use Rattle.std.proofs.Math.ListN.{set}
 use Rattle.std.specs.List.{sum_by}
 use Rattle.std.proofs.lemmas.Bool.{false≢true, cases_eq, cases_lt}
-use Rattle.std.proofs.lemmas.List.{get_or-set_other, get_or-replicate, get_or_past, length-replicate}
+use Rattle.std.proofs.lemmas.List.{get_or-set_other, get_or-replicate, get_or_past, length-append, length-replicate}
 use Rattle.std.proofs.lemmas.List.Sums.{sum_by-set}
 use Rattle.svr_elab_order.specs.Order.{is_in}
 use Rattle.svr_elab_order.specs.Graph.{right_before, IsFounded, founded, is_settled, AreFounded}
@@ -50,3 +50,13 @@ one_seen flags new v e h = elim (cases_lt v (length flags)) [
   | inl l ↦ ap (λ (k : List Bool). unmarked k + 1) e ∙ one_less flags v true l h
   | inr l ↦ absurd (false≢true (sym h ∙ get_or_past flags v true l))
 ]
+
+-- a node more is seen: the way grows by one, and what is left of it to do shrinks by two
+pub sooner : {A : Type 0} (flags new : List Bool) (v : ℕ) (way popped first next : List A) (x a b : A) → new ≡ set flags v true → get_or flags v true ≡ false → way ≡ popped ++ x ∷ [] → first ≡ popped ++ a ∷ [] → next ≡ first ++ b ∷ []
+    → 2 * unmarked new + length next < 2 * unmarked flags + length way
+sooner flags new v way popped first next x a b e h p q r =
+    let seen : unmarked new + 1 ≡ unmarked flags = one_seen flags new v e h in
+    let before : length way ≡ length popped + 1 = ap length p ∙ length-append popped (x ∷ []) in
+    let once : length first ≡ length popped + 1 = ap length q ∙ length-append popped (a ∷ []) in
+    let twice : length next ≡ length first + 1 = ap length r ∙ length-append first (b ∷ []) in
+    omega (arith, seen, before, once, twice)

@@ -7,7 +7,7 @@ ghost use Rattle.svr_elab_order.specs.Graph.{AreNames};
 use sqlite_items::Items;
 
 /// What one `solve` item orders: each of the first properties before each of the later ones, by their numbers. `block` is the name of the block that it stands in, and `at` the token `solve`.
-#[derive(Debug, Drop)]
+#[derive(Drop)]
 pub struct Order {
     pub block: u32,
     pub at: u32,

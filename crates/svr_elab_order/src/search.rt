@@ -9,14 +9,14 @@ use std::alloc::Global;
 use svr_typed::NoMemory;
 
 /// A node on the way back, and how many of those right before it were looked at.
-#[derive(Clone, Copy, Debug)]
+#[derive(Clone, Copy)]
 struct Step {
     node: usize,
     looked_at: usize,
 }
 
 /// A node that was not seen so far.
-#[derive(Clone, Copy, Debug)]
+#[derive(Clone, Copy)]
 struct Unseen {
     node: usize,
     /// How many were looked at, it among them.

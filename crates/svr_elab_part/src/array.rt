@@ -34,13 +34,10 @@ pub fn property_tree(
 ) -> Result<Option<TExpr>, NoMemory>
     ensures { IfOk result (λ t. option_map expr_term t ≡ shapes.property_tree object kind (option_map node_term node)) }
 {
-    let Some(kind) = kind else {
-        return Ok(None);
-    };
-    let Some(node) = node else {
-        return Ok(None);
-    };
-    Ok(Some(wrapped(alloc, object, Shape::of_kind(kind), node)?))
+    match kind.zip(node) {
+        None => Ok(None),
+        Some((kind, node)) => Ok(Some(wrapped(alloc, object, Shape::of_kind(kind), node)?)),
+    }
 }
 
 /// How many elements a row has; 1 of an array of one dimension.
@@ -112,6 +109,7 @@ fn reduce_node(
     ensures { IfOk result (λ n. option_map node_term n ≡ shapes.reduce_node property object fold (option_map expr_term body)) }
 {
     if object.is_some() {
+        drop(body);
         return Ok(None);
     }
     match body {
@@ -156,6 +154,7 @@ pub fn element_tree(
     ensures { IfOk result (λ t. option_map expr_term t ≡ shapes.element_tree root (option_map expr_term index)) }
 {
     let Root::Field(property, object) = root else {
+        drop(index);
         return Ok(None);
     };
     let node = element_node(alloc, property, index)?;
@@ -172,7 +171,10 @@ fn plain_cell(
     ensures { IfOk result (λ n. option_map node_term n ≡ option_map (λ m. shapes.cell property.number m (expr_term row) (expr_term column)) (shapes.inner_of property.dims)) }
 {
     match inner_of(property.dims) {
-        None => Ok(None),
+        None => {
+            drop((row, column));
+            Ok(None)
+        }
         Some(inner) => Ok(Some(TNode::cell(alloc, property.number, inner, row, column)?)),
     }
 }
@@ -187,11 +189,30 @@ fn placed_cell(
     ensures { IfOk result (λ n. option_map node_term n ≡ option_map (λ d. shapes.placed property.number d (expr_term row) (expr_term column)) (shapes.sizes_of property.dims)) }
 {
     match sizes_of(property.dims) {
-        None => Ok(None),
+        None => {
+            drop((row, column));
+            Ok(None)
+        }
         Some((rows, inner)) => {
             let place = place_tree(alloc, rows, inner, row, column)?;
             Ok(Some(TNode::element(alloc, property.number, place)?))
         }
+    }
+}
+
+/// An element of an array of two dimensions by its indexes, or by its place where it is of an object.
+fn cell_at(
+    alloc: Global,
+    property: Property,
+    object: Option<u32>,
+    row: TExpr,
+    column: TExpr,
+) -> Result<Option<TNode>, NoMemory>
+    ensures { IfOk result (λ n. option_map node_term n ≡ shapes.cell_at property object (expr_term row) (expr_term column)) }
+{
+    match object {
+        None => plain_cell(alloc, property, row, column),
+        Some(_) => placed_cell(alloc, property, row, column),
     }
 }
 
@@ -204,16 +225,9 @@ fn cell_node(
 ) -> Result<Option<TNode>, NoMemory>
     ensures { IfOk result (λ n. option_map node_term n ≡ shapes.cell_node property object (option_map expr_term row) (option_map expr_term column)) }
 {
-    let Some(row) = row else {
-        return Ok(None);
-    };
-    let Some(column) = column else {
-        return Ok(None);
-    };
-    if object.is_none() {
-        plain_cell(alloc, property, row, column)
-    } else {
-        placed_cell(alloc, property, row, column)
+    match row.zip(column) {
+        None => Ok(None),
+        Some((row, column)) => cell_at(alloc, property, object, row, column),
     }
 }
 
@@ -227,6 +241,7 @@ pub fn cell_tree(
     ensures { IfOk result (λ t. option_map expr_term t ≡ shapes.cell_tree root (option_map expr_term row) (option_map expr_term column)) }
 {
     let Root::Field(property, object) = root else {
+        drop((row, column));
         return Ok(None);
     };
     let node = cell_node(alloc, property, object, row, column)?;
@@ -243,6 +258,7 @@ pub fn array_node(
     ensures { IfOk result (λ n. option_map node_term n ≡ shapes.array_node root fold (option_map expr_term body)) }
 {
     let Root::Field(property, object) = root else {
+        drop(body);
         return Ok(None);
     };
     reduce_node(alloc, property, object, fold, body)

@@ -6,6 +6,7 @@
 mod array;
 mod constant;
 mod form;
+mod held;
 mod part;
 mod place;
 mod reads;
@@ -15,6 +16,7 @@ pub use array::{
     array_node, cell_tree, element_tree, fold_tree, item_tree, loop_tree, property_tree, size_tree,
 };
 pub use constant::known;
+pub use held::{beside, both};
 pub use part::{BoundPart, Extent, Form, Part, Parts, RangePart, RangesPart, Reads, Root, Shape};
 pub use shape::{
     binary_shape, choice_shape, kind_shape, sign_shape, total_shape, typed_as, unary_shape,

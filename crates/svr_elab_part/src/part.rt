@@ -6,14 +6,14 @@ use svr_elab_names::Property;
 use svr_typed::{TBound, TExpr, TRange};
 
 /// The self-determined size and sign (IEEE 1800-2017, 11.6 and 11.8). Over 64 bits count as 65.
-#[derive(Clone, Copy, Debug, PartialEq, Eq)]
+#[derive(Clone, Copy, PartialEq, Eq)]
 pub struct Shape {
     pub width: u8,
     pub signed: bool,
 }
 
 /// What an expression reads.
-#[derive(Clone, Copy, Debug, PartialEq, Eq)]
+#[derive(Clone, Copy)]
 pub struct Reads {
     /// Numbers, enum members and operators alone.
     pub constant: bool,
@@ -26,7 +26,7 @@ pub struct Reads {
 }
 
 /// How much of an array an expression stands for.
-#[derive(Clone, Copy, Debug, PartialEq, Eq)]
+#[derive(Clone, Copy, PartialEq, Eq)]
 pub enum Extent {
     /// A value, as an element is.
     Single,
@@ -37,7 +37,7 @@ pub enum Extent {
 }
 
 /// What a path with brackets begins with.
-#[derive(Clone, Copy, Debug, PartialEq, Eq)]
+#[derive(Clone, Copy, PartialEq, Eq)]
 pub enum Root {
     Nothing,
     /// A path that is refused.
@@ -53,7 +53,7 @@ pub enum Root {
 }
 
 /// What an expression is by its form, which is what a parent may ask of it.
-#[derive(Clone, Copy, Debug, PartialEq, Eq)]
+#[derive(Clone, Copy, PartialEq, Eq)]
 pub struct Form {
     /// Its last name.
     pub name: u32,

@@ -5,6 +5,7 @@ ghost use Rattle.svr_typed.specs.ExprTerm as term;
 ghost use Rattle.svr_typed.specs.ExprTerm.{expr_term};
 ghost use Rattle.svr_elab_part.specs.Shapes as shapes;
 
+use crate::held::{beside, both};
 use std::alloc::Global;
 use svr_flat::copy_expr;
 use svr_operator::BinOp;
@@ -51,8 +52,9 @@ fn is_inside(
 ) -> Result<TExpr, NoMemory>
     ensures { IfOk result (λ t. expr_term t ≡ shapes.is_inside rows inner (expr_term row) (expr_term column)) }
 {
-    let row_fits = truth_of(alloc, BinOp::Less, row, wide_number(u64::from(rows)))?;
-    let column_fits = truth_of(alloc, BinOp::Less, column, wide_number(u64::from(inner)))?;
+    let row_fits = truth_of(alloc, BinOp::Less, row, wide_number(u64::from(rows)));
+    let column_fits = truth_of(alloc, BinOp::Less, column, wide_number(u64::from(inner)));
+    let (row_fits, column_fits) = both(row_fits, column_fits)?;
     truth_of(alloc, BinOp::LogicalAnd, row_fits, column_fits)
 }
 
@@ -60,7 +62,8 @@ fn is_inside(
 fn row_by_row(alloc: Global, inner: u32, row: TExpr, column: TExpr) -> Result<TExpr, NoMemory>
     ensures { IfOk result (λ t. expr_term t ≡ shapes.row_by_row inner (expr_term row) (expr_term column)) }
 {
-    let before = wide_binary(alloc, BinOp::Multiply, row, wide_number(u64::from(inner)))?;
+    let before = wide_binary(alloc, BinOp::Multiply, row, wide_number(u64::from(inner)));
+    let (column, before) = beside(column, before)?;
     wide_binary(alloc, BinOp::Add, before, column)
 }
 
@@ -74,8 +77,7 @@ fn are_inside(
 ) -> Result<TExpr, NoMemory>
     ensures { IfOk result (λ t. expr_term t ≡ shapes.is_inside rows inner (expr_term row.now) (expr_term column.now)) }
 {
-    let row = copy_expr(alloc, row)?;
-    let column = copy_expr(alloc, column)?;
+    let (row, column) = both(copy_expr(alloc, row), copy_expr(alloc, column))?;
     is_inside(alloc, rows, inner, row, column)
 }
 
@@ -89,8 +91,9 @@ fn place_of_wide(
 ) -> Result<TExpr, NoMemory>
     ensures { IfOk result (λ t. expr_term t ≡ term.typed 64 false (term.choice (shapes.is_inside rows inner (expr_term row) (expr_term column)) (shapes.row_by_row inner (expr_term row) (expr_term column)) (shapes.wide_number (rows * inner)))) }
 {
-    let test = are_inside(alloc, rows, inner, &row, &column)?;
-    let place = row_by_row(alloc, inner, row, column)?;
+    let test = are_inside(alloc, rows, inner, &row, &column);
+    let place = row_by_row(alloc, inner, row, column);
+    let (test, place) = both(test, place)?;
     let past = wide_number(u64::from(rows) * u64::from(inner));
     Ok(TExpr::new(64, false, TNode::choice(alloc, test, place, past)?))
 }
@@ -105,7 +108,6 @@ pub fn place_tree(
 ) -> Result<TExpr, NoMemory>
     ensures { IfOk result (λ t. expr_term t ≡ shapes.place_tree rows inner (expr_term row) (expr_term column)) }
 {
-    let row = widened(alloc, row)?;
-    let column = widened(alloc, column)?;
+    let (row, column) = both(widened(alloc, row), widened(alloc, column))?;
     place_of_wide(alloc, rows, inner, row, column)
 }

@@ -126,11 +126,8 @@ pub fn total_shape(total: Option<u8>) -> Option<Shape>
 pub fn typed_as(shape: Option<Shape>, node: Option<TNode>) -> Option<TExpr>
     ensures { option_map expr_term result ≡ shapes.typed_as shape (option_map node_term node) }
 {
-    let Some(shape) = shape else {
-        return None;
-    };
-    let Some(node) = node else {
-        return None;
-    };
-    Some(TExpr::new(shape.width, shape.signed, node))
+    match shape.zip(node) {
+        None => None,
+        Some((shape, node)) => Some(TExpr::new(shape.width, shape.signed, node)),
+    }
 }

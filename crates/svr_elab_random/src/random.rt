@@ -11,7 +11,7 @@ use svr_elab_names::{ClassNames, PropEntry, Property};
 use svr_typed::NoMemory;
 
 /// A property by the class that declares it and its number in flat order, which it has in each derived class too.
-#[derive(Clone, Copy, Debug, PartialEq, Eq, Hash)]
+#[derive(Clone, Copy, PartialEq, Eq, Hash)]
 pub struct Home {
     pub class: u32,
     pub number: u32,

@@ -14,7 +14,7 @@ use svr_refusal::Refusal;
 use svr_tree::{Expr, Scope};
 
 /// An object variable and the number of its class.
-#[derive(Clone, Copy, Debug, PartialEq, Eq)]
+#[derive(Clone, Copy, PartialEq, Eq)]
 pub struct Object {
     pub variable: u32,
     pub class: u32,

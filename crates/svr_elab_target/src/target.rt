@@ -13,7 +13,7 @@ use svr_elab_part::{Extent, Form, Part, Root};
 use svr_refusal::Refusal;
 
 /// What a left side names. Objects and variables are named by their places among the script variables.
-#[derive(Clone, Copy, Debug, PartialEq, Eq)]
+#[derive(Clone, Copy)]
 pub enum Target {
     /// Nothing that a statement can change.
     Nothing,

@@ -19,7 +19,7 @@ use svr_tree::Expr;
 use svr_typed::NoMemory;
 
 /// A number that is to be constant, with its first token. It is not known where it is refused.
-#[derive(Clone, Copy, Debug, PartialEq, Eq)]
+#[derive(Clone, Copy)]
 pub struct Constant {
     pub at: u32,
     pub number: Option<i128>,

@@ -19,7 +19,7 @@ use svr_tree::{AtomKind, IntegerType, PackedRange, Signing};
 use svr_typed::{NoMemory, NumType};
 
 /// What is known of a type.
-#[derive(Clone, Copy, Debug, PartialEq, Eq)]
+#[derive(Clone, Copy)]
 pub struct TypePart {
     pub kind: Option<Vector>,
     pub fault: Option<Fault>,

@@ -1,11 +1,13 @@
 -- Parts that are the same as earlier ones
-use Rattle.std.proofs.Common.{◌≡◌, ℕ, zero, suc, ◌+◌, ◌<◌, List, [], ◌∷◌, ◌++◌, length, map, get_or, None, Some, refl, sym, ap, ◌∙◌, subst, arith, append_assoc, drop, drop-cons, add-one}
+use Rattle.std.proofs.Common.{◌≡◌, ℕ, zero, suc, ◌+◌, ◌<◌, Bool, List, [], ◌∷◌, ◌++◌, length, map, get_or, None, Some, refl, sym, ap, ◌∙◌, subst, arith, append_assoc, drop, drop-cons, add-one, Vec, Global}
+use Rattle.std.specs.Prelude.{Result, Ok, Err, IfOk}
 use Rattle.svr_typed.specs.declared.expr.TExpr.{TExpr}
 use Rattle.svr_typed.specs.declared.expr.TRange.{TRange}
-use Rattle.svr_typed.specs.ExprTerm.{ExprTerm, expr_term, expr_terms, range_term, range_terms}
+use Rattle.svr_typed.specs.ExprTerm.{ExprTerm, NodeTerm, expr_term, expr_terms, node_term, range_term, range_terms}
 use Rattle.svr_eval.specs.Typed.{IsTyped, AreTyped, RangeIsTyped, RangesAreTyped}
 use Rattle.svr_encode.specs.declared.part.Part.{Part}
-use Rattle.svr_encode.specs.Parts.{PartTerm, part_term, alone_part, alone_parts, range_parts, set_parts, IsRepeat, AreRepeats}
+use Rattle.svr_encode.specs.Parts.{PartTerm, part_term, alone_part, alone_parts, body_parts, range_parts, set_parts, node_parts, parts_of, IsRepeat, AreRepeats}
+use Rattle.svr_encode.proofs.TreeLemmas.{stored}
 
 pub no_repeat : (before : List PartTerm) (p : Part) → p.same ≡ None → IsRepeat before p
 no_repeat before p h = record { earlier = λ k e. cc }
@@ -85,3 +87,14 @@ set_more ts more all left k rs x h is same e =
 
 pub ranges_typed : (k : ℕ) (rs : List TRange) (x : TRange) → k < length rs → x ≡ get_or rs k x → RangesAreTyped (range_terms (drop k rs)) → RangeIsTyped (range_term x) × RangesAreTyped (range_terms (drop (k + 1) rs))
 ranges_typed k rs x h is t = subst (λ (ys : List TRange). RangesAreTyped (range_terms ys)) (cut_range k rs x h is) t
+
+-- the parts of the node are those of the expression
+pub parts_give : {E : Type 0} (count : ℕ → ℕ) (e : TExpr) (n : NodeTerm) (w : ℕ) (s : Bool) (r : Result (Vec Part Global) E) → node_term e.node ≡ n
+    → IfOk r (λ ps. map part_term ps.items ≡ node_parts count n w s) → IfOk r (λ ps. map part_term ps.items ≡ parts_of count (expr_term e) w s)
+parts_give count e n w s (Ok ps) is h = h ∙ sym (ap (λ t. parts_of count t w s) (stored e) ∙ ap (λ m. node_parts count m w s) is)
+parts_give count e n w s (Err x) is h = tt
+
+-- so many bodies
+pub bodies_give : {E : Type 0} (r : Result (Vec Part Global) E) (k n : ℕ) (e : ExprTerm) → k ≡ n → IfOk r (λ ps. map part_term ps.items ≡ body_parts k e) → IfOk r (λ ps. map part_term ps.items ≡ body_parts n e)
+bodies_give (Ok ps) k n e is h = h ∙ ap (λ j. body_parts j e) is
+bodies_give (Err x) k n e is h = tt

@@ -11,7 +11,7 @@ ghost use Rattle.svr_encode.specs.Parts.{member_parts, low_parts, high_parts, ra
 ghost use Rattle.svr_encode.specs.Given.{AreGiven};
 
 use crate::given::{Given, value_at};
-use crate::leaves::{is_no_less, property};
+use crate::leaves::{are_signed, is_no_less, property};
 use std::alloc::Global;
 use svr_arith::equal;
 use svr_chain::Lit;
@@ -67,7 +67,7 @@ fn equals_member(
     match property(member) {
         Some(prop) => {
             let x = value_at(given.values, at);
-            let both = left.signed && member.signed;
+            let both = are_signed(left, member);
             is_some_element(alloc, b, given.inputs, x, prop, member.width, both)
         }
         None => {
@@ -95,7 +95,7 @@ fn is_from(
         TBound::Value(low) => {
             let x = value_at(given.values, at);
             let y = value_at(given.values, at + 1);
-            is_no_less(b, x, y, left.signed && low.signed)
+            is_no_less(b, x, y, are_signed(left, low))
         }
         TBound::Dollar => constant(b, true),
     }
@@ -119,7 +119,7 @@ fn is_up_to(
         TBound::Value(high) => {
             let x = value_at(given.values, at);
             let y = value_at(given.values, at + 1);
-            is_no_less(b, x, y, high.signed && left.signed)
+            is_no_less(b, x, y, are_signed(high, left))
         }
         TBound::Dollar => constant(b, true),
     }

@@ -14,3 +14,5 @@ pub mod Still
 pub mod Active
 pub mod Enums
 pub mod Rows
+pub mod Nested
+pub mod Arms

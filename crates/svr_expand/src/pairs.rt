@@ -6,21 +6,22 @@ ghost use Rattle.svr_eval.specs.Reading.{Reading, reading_of};
 ghost use Rattle.svr_eval.specs.Value.{property_of};
 ghost use Rattle.svr_frame.specs.Closed as closing;
 ghost use Rattle.svr_frame.specs.Occurrences as spec;
-ghost use Rattle.svr_frame.specs.Reads.{of_element};
+ghost use Rattle.svr_frame.specs.Reads.{of_element, of_size};
 ghost use Rattle.svr_mention.specs.Mentioned.{mention_in, reads_in, shape_in};
-ghost use Rattle.svr_expand.specs.Expanded.{guards_of, place_of, GuardsAreReady, findings, found_at, found_of, ExprIsReady, ExprsAreReady};
+ghost use Rattle.svr_expand.specs.Expanded.{guards_of, over_of, place_of, guards_read_in, GuardsAreReady, findings, found_at, found_of, ExprIsReady, ExprsAreReady};
 ghost use Rattle.svr_expand.specs.Operands.{operand_expr, operand_exprs, MemberIsReady, AllReady};
 
 use crate::around::Around;
 use crate::finding::Finding;
 use crate::guards::binary;
-use crate::walk::{add_guard_mentions, add_loop_mentions, add_occurrence};
+use crate::held::beside;
+use crate::walk::{add_guard_mentions, add_loop_mentions, add_occurrence, is_counted};
 use sqlite_items::Items;
 use std::alloc::Global;
 use svr_closed::{closed, index_number};
 use svr_eval::Env;
 use svr_frame::size_at;
-use svr_mention::{Mention, Setting, add_mentions, counts, element_mention};
+use svr_mention::{Mention, Setting, add_mentions, element_mention};
 use svr_operator::BinOp;
 use svr_typed::{NoMemory, TExpr, TNode};
 
@@ -76,7 +77,9 @@ fn numbered_mention(prop: u32, at: u32, env: &Env, set: &Setting<'_>) -> Mention
     ensures { result ≡ mention_in set.now (of_element prop env.now (closing.index_number at)) }
 {
     let index = index_number(at);
-    element_mention(prop, &index, env, set)
+    let mention = element_mention(prop, &index, env, set);
+    drop(index);
+    mention
 }
 
 /// Adds what the operand mentions.
@@ -99,8 +102,29 @@ fn add_operand_mentions(
     }
 }
 
-/// Adds `x != y`, where it counts in the phase.
+/// Adds what two operands mention, and the tests and the loops around them.
 #[tactic(auto, using(svr_mention::proofs::Appended::then))]
+fn add_pair_mentions(
+    alloc: Global,
+    x: &UniqueMember<'_>,
+    y: &UniqueMember<'_>,
+    at: &Around<'_>,
+    env: &Env,
+    set: &Setting<'_>,
+    out: &mut Items<Mention>,
+) -> Result<(), NoMemory>
+    requires left { MemberIsReady (reading_of set.now.state.now) (length env.now) x.now }
+    requires right { MemberIsReady (reading_of set.now.state.now) (length env.now) y.now }
+    requires place_ready { GuardsAreReady (reading_of set.now.state.now) (guards_of at.now) }
+    ensures { OnOk result (out.new ≡ out.old ++ map (mention_in set.now) (reads_in set.now env.now (operand_expr x.now) ++ reads_in set.now env.now (operand_expr y.now) ++ guards_read_in set.now (guards_of at.now) ++ map of_size (over_of at.now))) }
+{
+    add_operand_mentions(alloc, x, env, set, out)?;
+    add_operand_mentions(alloc, y, env, set, out)?;
+    add_guard_mentions(alloc, at, set, out)?;
+    add_loop_mentions(at, set, out)
+}
+
+/// Adds `x != y`, where it counts in the phase.
 fn add_pair(
     alloc: Global,
     x: &UniqueMember<'_>,
@@ -116,21 +140,16 @@ fn add_pair(
     ensures { OnOk result (findings out.new ≡ findings out.old ++ found_at set.now (place_of at.now env.now) false (spec.stated (spec.unequal (operand_expr x.now) (operand_expr y.now)))) }
 {
     let mut mentions = Items::new(alloc);
-    add_operand_mentions(alloc, x, env, set, &mut mentions)?;
-    add_operand_mentions(alloc, y, env, set, &mut mentions)?;
-    add_guard_mentions(alloc, at, set, &mut mentions)?;
-    add_loop_mentions(at, set, &mut mentions)?;
-    if counts(
-        set.frame,
-        set.part,
-        false,
-        env.depth() > 0,
-        mentions.as_slice(),
-    ) {
-        let e = unequal(alloc, x, y, env)?;
-        add_occurrence(alloc, false, e, mentions, at, out)?;
+    let told = add_pair_mentions(alloc, x, y, at, env, set, &mut mentions);
+    let (mentions, _) = beside(mentions, told)?;
+    if is_counted(false, env, set, mentions.as_slice()) {
+        let e = unequal(alloc, x, y, env);
+        let (mentions, e) = beside(mentions, e)?;
+        add_occurrence(alloc, false, e, mentions, at, out)
+    } else {
+        drop(mentions);
+        Ok(())
     }
-    Ok(())
 }
 
 #[tactic(auto, using(crate::proofs::Joined::found_after))]

@@ -14,6 +14,7 @@ ghost use Rattle.svr_expand.specs.Domains.{all_slot_exprs, size_exprs_of};
 
 use crate::around::Around;
 use crate::domain::{add_size_items, add_slot_items};
+use crate::held::{beside, both};
 use crate::slots::unknowns;
 use crate::sort::{Expansion, sorted};
 use crate::state::state_at;
@@ -80,6 +81,15 @@ fn active_items(
     Ok(asked)
 }
 
+/// One list before another.
+fn appended<T: Drop>(front: Items<T>, back: Items<T>) -> Result<Items<T>, NoMemory>
+    ensures { IfOk result (λ all. all ≡ front ++ back) }
+{
+    let mut all = front;
+    all.append(back)?;
+    Ok(all)
+}
+
 /// The items of a phase at these sizes as closed expressions: those that have to hold, and the live soft ones from the highest priority down (IEEE 1800-2017, 18.5 and 18.5.14). Such an expression is not 0 exactly where its occurrence holds.
 pub fn expand(
     alloc: Global,
@@ -95,11 +105,10 @@ pub fn expand(
     ensures soft_truth { IfOk result (λ x. (fixed : List (ℕ × ℕ)) (a : Reading) → IsAssignment (frame_term frame.now) part sizes.now fixed a → map (λ e. is_set (alone a [] e)) (map expr_term x.soft) ≡ map (is_true a) (spec.live_of (frame_term frame.now) part sizes.now)) }
 {
     let state = state_at(alloc, frame, sizes)?;
-    let active = active_items(alloc, frame, part, sizes, &state)?;
-    let mut hard = own_items(alloc, frame, part, sizes)?;
-    hard.append(active.hard)?;
-    Ok(Expansion {
-        hard,
-        soft: active.soft,
-    })
+    let active = active_items(alloc, frame, part, sizes, &state);
+    drop(state);
+    let own = own_items(alloc, frame, part, sizes);
+    let (own, active) = both(own, active)?;
+    let (soft, hard) = beside(active.soft, appended(own, active.hard))?;
+    Ok(Expansion { hard, soft })
 }

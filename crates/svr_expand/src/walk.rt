@@ -10,12 +10,14 @@ ghost use Rattle.svr_frame.specs.Frame.{frame_term};
 ghost use Rattle.svr_frame.specs.Phases.{sought_sizes};
 ghost use Rattle.svr_frame.specs.Reads.{of_size, has_free_size_in};
 ghost use Rattle.svr_expand.specs.Loops.{found_within, found_in_row, found_in_loop};
-ghost use Rattle.svr_mention.specs.Mentioned.{mention_in, shape_in};
+ghost use Rattle.svr_mention.specs.Mentioned.{mention_in, shape_in, counts_by, fact_reads_in};
+ghost use Rattle.svr_frame.specs.Occurrences.{has_index};
 ghost use Rattle.svr_expand.specs.Expanded.{guards_of, place_of, over_of, findings, one_found, found_at, gone_at, looked_at, found_in, all_found_in, guards_read_in, turns_differ, disables, any_disables, targets_of, node_in, option_list, ExprIsReady, DistIsReady, GuardsAreReady, ItemIsReady, ItemsAreReady};
 
 use crate::around::Around;
 use crate::finding::Finding;
 use crate::guards::guarded;
+use crate::held::beside;
 use crate::pairs::add_pairs;
 use sqlite_items::Items;
 use std::alloc::Global;
@@ -103,6 +105,34 @@ pub(crate) fn add_occurrence(
     Ok(())
 }
 
+/// Whether an occurrence with these mentions counts in the phase.
+pub(crate) fn is_counted(soft: bool, env: &Env, set: &Setting<'_>, mentions: &[Mention]) -> bool
+    ensures { result ≡ counts_by (frame_term set.now.frame.now) set.now.part soft (has_index env.now) mentions.now }
+{
+    counts(set.frame, set.part, soft, env.depth() > 0, mentions)
+}
+
+/// Adds what a plain item mentions, and the tests and the loops around it.
+#[tactic(auto, using(svr_mention::proofs::Appended::then))]
+fn add_plain_mentions(
+    alloc: Global,
+    expr: &TExpr,
+    dist: &Option<Items<TDistItem>>,
+    at: &Around<'_>,
+    env: &Env,
+    set: &Setting<'_>,
+    out: &mut Items<Mention>,
+) -> Result<(), NoMemory>
+    requires ready { ExprIsReady (reading_of set.now.state.now) (length env.now) (expr_term expr.now) }
+    requires dist_ready { DistIsReady (reading_of set.now.state.now) (length env.now) (option_map dist_terms dist.now) }
+    requires place_ready { GuardsAreReady (reading_of set.now.state.now) (guards_of at.now) }
+    ensures { OnOk result (out.new ≡ out.old ++ map (mention_in set.now) (fact_reads_in set.now env.now (spec.fact_of (expr_term expr.now) (option_map dist_terms dist.now)) ++ guards_read_in set.now (guards_of at.now) ++ map of_size (over_of at.now))) }
+{
+    add_fact_mentions(alloc, expr, dist, env, set, out)?;
+    add_guard_mentions(alloc, at, set, out)?;
+    add_loop_mentions(at, set, out)
+}
+
 /// Adds a plain item, where it counts in the phase.
 fn add_plain(
     alloc: Global,
@@ -120,20 +150,16 @@ fn add_plain(
     ensures { OnOk result (findings out.new ≡ findings out.old ++ found_at set.now (place_of at.now env.now) soft (spec.fact_of (expr_term expr.now) (option_map dist_terms dist.now))) }
 {
     let mut mentions = Items::new(alloc);
-    add_fact_mentions(alloc, expr, dist, env, set, &mut mentions)?;
-    add_guard_mentions(alloc, at, set, &mut mentions)?;
-    add_loop_mentions(at, set, &mut mentions)?;
-    if counts(
-        set.frame,
-        set.part,
-        soft,
-        env.depth() > 0,
-        mentions.as_slice(),
-    ) {
-        let e = fact_expr(alloc, expr, dist, env, set.state)?;
-        add_occurrence(alloc, soft, e, mentions, at, out)?;
+    let told = add_plain_mentions(alloc, expr, dist, at, env, set, &mut mentions);
+    let (mentions, _) = beside(mentions, told)?;
+    if is_counted(soft, env, set, mentions.as_slice()) {
+        let e = fact_expr(alloc, expr, dist, env, set.state);
+        let (mentions, e) = beside(mentions, e)?;
+        add_occurrence(alloc, soft, e, mentions, at, out)
+    } else {
+        drop(mentions);
+        Ok(())
     }
-    Ok(())
 }
 
 /// Whether a target holds a size that the phase looks for.
@@ -282,8 +308,7 @@ pub(crate) fn add_item(
                 None => Ok(()),
                 Some(body) => {
                     let inner = Around::Under(test, false, &*env, &*at);
-                    add_items(alloc, body.as_slice(), &inner, env, set, out)?;
-                    Ok(())
+                    add_items(alloc, body.as_slice(), &inner, env, set, out)
                 }
             }
         }

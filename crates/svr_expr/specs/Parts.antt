@@ -6,7 +6,7 @@ use Rattle.svr_token.specs.declared.NameKind.{NameKind}
 use Rattle.svr_token.specs.declared.Mark.TheVariants as m
 use Rattle.svr_tree.specs.Tokens.{Tok}
 use Rattle.svr_tree.specs.declared.expr.Expr.{Expr}
-use Rattle.svr_tree.specs.ExprTree.{ExprTree, expr_tree, part_select}
+use Rattle.svr_tree.specs.ExprTree.{ExprTree, expr_tree, bit_select, part_select}
 use Rattle.svr_tree.specs.Operators.{implication_level}
 use Rattle.svr_reader.specs.declared.fault.ReadFault.{ReadFault}
 use Rattle.svr_reader.specs.declared.fixed.Fixed.TheVariants as f
@@ -19,6 +19,12 @@ use Rattle.svr_expr.specs.ExprRules.{Rule, expr}
 -- an expression seen as data, with the kind of its last name
 abbrev pub kind_view : Expr × NameKind → ExprTree × NameKind
 kind_view x = (expr_tree x.0, x.1)
+
+-- the end of a bit-select of which the rest was read, and is as high as the number
+abbrev pub bit_of : ℕ → ExprTree → ExprTree → ℕ → Rule (WithHeight ExprTree)
+bit_of at base index height = do
+  expect (f.Mark m.CloseBracket)
+  pure (bit_select at base index false, height + 1)
 
 -- the last bound of a part-select of which the rest was read, and is as high as the last number
 abbrev pub last_of : ℕ → ExprTree → ExprTree → ℕ → Rule (WithHeight ExprTree)

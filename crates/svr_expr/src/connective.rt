@@ -10,7 +10,7 @@ use svr_token::{Lexeme, Mark, Word};
 use svr_tree::level;
 
 /// How an expression may go on behind its left operand.
-#[derive(Clone, Copy, Debug, PartialEq, Eq)]
+#[derive(Clone, Copy, PartialEq, Eq)]
 pub enum Connective {
     Binary(BinOp),
     /// `? :`

@@ -20,17 +20,13 @@ use svr_tree::{Bound, Expr, Range, level};
 
 impl<F: Fn(Global, &mut Cursor<'_>, usize, u8) -> Result<(Expr, usize), ReadFault>> Reader<F> {
     /// Expressions with commas between them.
-    #[tactic(auto, unfolding(crate::specs::ExprRules::exprs))]
+    #[tactic(auto, unfolding(crate::specs::ExprRules::exprs, svr_reader::specs::Lists::listing))]
     pub fn exprs(&self, cursor: &mut Cursor<'_>) -> Result<(Items<Expr>, usize), ReadFault>
         requires nests { Nests self.now.room (F.pre self.now.expr) (F.post self.now.expr) }
         ensures gives { Gives (heights_view expr_tree) (spec.within cap self.now.room spec.exprs cursor.old) result cursor.new }
         ensures low { IfOk result (λ x. x.1 ≤ self.now.room) }
     {
-        listing(
-            self.alloc,
-            cursor,
-            |cursor| self.part(cursor, level::IMPLICATION),
-        )
+        self.exprs_on(cursor, Items::new(self.alloc), 0)
     }
 
     /// The same, behind the first ones.

@@ -6,7 +6,7 @@ ghost use Rattle.svr_reader.specs.Answers.{Gives, plainly};
 ghost use Rattle.svr_reader.specs.Calls.{cap, height_view};
 ghost use Rattle.svr_reader.specs.Program.{loop};
 ghost use Rattle.svr_expr.specs.ExprRules as spec;
-ghost use Rattle.svr_expr.specs.Parts.{Nests, last_of};
+ghost use Rattle.svr_expr.specs.Parts.{Nests, bit_of, last_of};
 
 use crate::beside::{enter_beside, expect_beside, take_beside};
 use crate::names::any_path;
@@ -71,6 +71,25 @@ impl<F: Fn(Global, &mut Cursor<'_>, usize, u8) -> Result<(Expr, usize), ReadFaul
         Ok((with_parens(base), height))
     }
 
+    /// The end of a select of one bit, behind its index. The base and the index are as high as `height`.
+    fn bit_select_on(
+        &self,
+        cursor: &mut Cursor<'_>,
+        at: u32,
+        base: Expr,
+        index: Expr,
+        height: usize,
+    ) -> Result<(Expr, usize), ReadFault>
+        requires room { self.now.room + 1 < 2 ^ 64 }
+        requires height { height ≤ self.now.room }
+        ensures gives { Gives (height_view expr_tree) (spec.within cap self.now.room (bit_of at (expr_tree base) (expr_tree index) height) cursor.old) result cursor.new }
+        ensures low { IfOk result (λ x. x.1 ≤ self.now.room + 1) }
+    {
+        let (base, index) = expect_beside(cursor, (base, index), Fixed::Mark(Mark::CloseBracket))?;
+        let whole = Expr::bit_select(self.alloc, at, base, index, false)?;
+        Ok((whole, height + 1))
+    }
+
     /// An index, behind a path and its indices.
     #[tactic(auto, unfolding(crate::specs::ExprRules::index_on))]
     fn index_on(
@@ -88,9 +107,7 @@ impl<F: Fn(Global, &mut Cursor<'_>, usize, u8) -> Result<(Expr, usize), ReadFaul
     {
         let (base, _) = enter_beside(cursor, base, self.room, height)?;
         let (base, index, index_height) = self.part_beside(cursor, base, level::IMPLICATION)?;
-        let (base, index) = expect_beside(cursor, (base, index), Fixed::Mark(Mark::CloseBracket))?;
-        let whole = Expr::bit_select(self.alloc, at, base, index, false)?;
-        Ok((whole, height.max(index_height) + 1))
+        self.bit_select_on(cursor, at, base, index, height.max(index_height))
     }
 
     /// The indices behind a path that begins at this token.
@@ -182,11 +199,10 @@ impl<F: Fn(Global, &mut Cursor<'_>, usize, u8) -> Result<(Expr, usize), ReadFaul
         let (base, first, first_height) = self.part_beside(cursor, base, level::IMPLICATION)?;
         let height = height.max(first_height);
         if cursor.eat(Fixed::Mark(Mark::Colon)) {
-            return self.part_select_on(cursor, at, base, first, height);
+            self.part_select_on(cursor, at, base, first, height)
+        } else {
+            self.bit_select_on(cursor, at, base, first, height)
         }
-        let (base, first) = expect_beside(cursor, (base, first), Fixed::Mark(Mark::CloseBracket))?;
-        let whole = Expr::bit_select(self.alloc, at, base, first, false)?;
-        Ok((whole, height + 1))
     }
 
     /// The selects behind a path that begins at this token, and then `()`.

@@ -2,6 +2,7 @@
 
 ghost use Rattle.std.specs.Prelude.{◌≡◌, IfOk};
 
+use crate::memory::both;
 use sqlite_items::{Boxed, Items};
 use std::alloc::Global;
 use svr_operator::{BinOp, Fold, UnOp};
@@ -59,6 +60,18 @@ fn copy_boxed(alloc: Global, e: &TExpr) -> Result<Boxed<TExpr>, NoMemory>
 }
 
 #[cycle(copy_expr)]
+fn copy_pair(
+    alloc: Global,
+    first: &TExpr,
+    second: &TExpr,
+) -> Result<(Boxed<TExpr>, Boxed<TExpr>), NoMemory>
+    ensures first { IfOk result (λ copies. copies.0 ≡ first.now) }
+    ensures second { IfOk result (λ copies. copies.1 ≡ second.now) }
+{
+    both(copy_boxed(alloc, first), copy_boxed(alloc, second))
+}
+
+#[cycle(copy_expr)]
 fn copy_element(alloc: Global, prop: u32, index: &TExpr) -> Result<TNode, NoMemory>
     ensures { IfOk result (λ n. n ≡ TNode.Element prop index.now) }
 {
@@ -75,8 +88,7 @@ fn copy_cell(
 ) -> Result<TNode, NoMemory>
     ensures { IfOk result (λ n. n ≡ TNode.Cell prop inner first.now second.now) }
 {
-    let first = copy_boxed(alloc, first)?;
-    let second = copy_boxed(alloc, second)?;
+    let (first, second) = copy_pair(alloc, first, second)?;
     Ok(TNode::Cell(prop, inner, first, second))
 }
 
@@ -98,8 +110,7 @@ fn copy_part(alloc: Global, object: u32, part: &TExpr) -> Result<TNode, NoMemory
 fn copy_bit_select(alloc: Global, base: &TExpr, index: &TExpr, low: i64) -> Result<TNode, NoMemory>
     ensures { IfOk result (λ n. n ≡ TNode.Select base.now index.now None low) }
 {
-    let base = copy_boxed(alloc, base)?;
-    let first = copy_boxed(alloc, index)?;
+    let (base, first) = copy_pair(alloc, base, index)?;
     Ok(TNode::Select {
         base,
         first,
@@ -118,9 +129,7 @@ fn copy_part_select(
 ) -> Result<TNode, NoMemory>
     ensures { IfOk result (λ n. n ≡ TNode.Select base.now first.now (Some last.now) low) }
 {
-    let base = copy_boxed(alloc, base)?;
-    let first = copy_boxed(alloc, first)?;
-    let last = copy_boxed(alloc, last)?;
+    let ((base, first), last) = both(copy_pair(alloc, base, first), copy_boxed(alloc, last))?;
     Ok(TNode::Select {
         base,
         first,
@@ -141,8 +150,7 @@ fn copy_unary(alloc: Global, op: UnOp, arg: &TExpr) -> Result<TNode, NoMemory>
 fn copy_binary(alloc: Global, op: BinOp, left: &TExpr, right: &TExpr) -> Result<TNode, NoMemory>
     ensures { IfOk result (λ n. n ≡ TNode.Binary op left.now right.now) }
 {
-    let left = copy_boxed(alloc, left)?;
-    let right = copy_boxed(alloc, right)?;
+    let (left, right) = copy_pair(alloc, left, right)?;
     Ok(TNode::Binary { op, left, right })
 }
 
@@ -150,9 +158,7 @@ fn copy_binary(alloc: Global, op: BinOp, left: &TExpr, right: &TExpr) -> Result<
 fn copy_choice(alloc: Global, test: &TExpr, yes: &TExpr, no: &TExpr) -> Result<TNode, NoMemory>
     ensures { IfOk result (λ n. n ≡ TNode.Choice test.now yes.now no.now) }
 {
-    let test = copy_boxed(alloc, test)?;
-    let yes = copy_boxed(alloc, yes)?;
-    let no = copy_boxed(alloc, no)?;
+    let (test, (yes, no)) = both(copy_boxed(alloc, test), copy_pair(alloc, yes, no))?;
     Ok(TNode::Choice { test, yes, no })
 }
 
@@ -160,8 +166,7 @@ fn copy_choice(alloc: Global, test: &TExpr, yes: &TExpr, no: &TExpr) -> Result<T
 fn copy_inside(alloc: Global, set: &[TRange], left: &TExpr) -> Result<TNode, NoMemory>
     ensures { IfOk result (λ n. n ≡ TNode.Inside left.now set.now) }
 {
-    let left = copy_boxed(alloc, left)?;
-    let set = copy_ranges(alloc, set)?;
+    let (left, set) = both(copy_boxed(alloc, left), copy_ranges(alloc, set))?;
     Ok(TNode::Inside { left, set })
 }
 
@@ -177,8 +182,7 @@ fn copy_join(alloc: Global, parts: &[TExpr]) -> Result<TNode, NoMemory>
 fn copy_replication(alloc: Global, parts: &[TExpr], count: &TExpr) -> Result<TNode, NoMemory>
     ensures { IfOk result (λ n. n ≡ TNode.Copies count.now parts.now) }
 {
-    let count = copy_boxed(alloc, count)?;
-    let parts = copy_exprs(alloc, parts)?;
+    let (count, parts) = both(copy_boxed(alloc, count), copy_exprs(alloc, parts))?;
     Ok(TNode::Copies { count, parts })
 }
 
@@ -221,8 +225,8 @@ pub fn copy_range(alloc: Global, range: &TRange) -> Result<TRange, NoMemory>
     match range {
         TRange::One(e) => Ok(TRange::One(copy_expr(alloc, e)?)),
         TRange::Span(low, high) => {
-            let low = copy_bound(alloc, low)?;
-            Ok(TRange::Span(low, copy_bound(alloc, high)?))
+            let (low, high) = both(copy_bound(alloc, low), copy_bound(alloc, high))?;
+            Ok(TRange::Span(low, high))
         }
     }
 }

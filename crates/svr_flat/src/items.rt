@@ -3,6 +3,7 @@
 ghost use Rattle.std.specs.Prelude.{◌≡◌, IfOk};
 
 use crate::exprs::{copy_expr, copy_exprs, copy_range};
+use crate::memory::{beside, both};
 use sqlite_items::Items;
 use std::alloc::Global;
 use svr_operator::Share;
@@ -52,8 +53,7 @@ fn copy_plain(alloc: Global, soft: bool, e: &TExpr) -> Result<TItem, NoMemory>
 fn copy_dist(alloc: Global, soft: bool, e: &TExpr, members: &[TDistItem]) -> Result<TItem, NoMemory>
     ensures { IfOk result (λ copy. copy ≡ TItem.Plain soft e.now (Some members.now)) }
 {
-    let expr = copy_expr(alloc, e)?;
-    let members = copy_members(alloc, members)?;
+    let (expr, members) = both(copy_expr(alloc, e), copy_members(alloc, members))?;
     Ok(TItem::Plain {
         soft,
         expr,
@@ -74,8 +74,10 @@ fn copy_members(alloc: Global, members: &[TDistItem]) -> Result<Items<TDistItem>
 fn copy_member(alloc: Global, member: &TDistItem) -> Result<TDistItem, NoMemory>
     ensures { IfOk result (λ copy. copy ≡ member.now) }
 {
-    let range = copy_range(alloc, &member.range)?;
-    let weight = copy_weight(alloc, &member.weight)?;
+    let (range, weight) = both(
+        copy_range(alloc, &member.range),
+        copy_weight(alloc, &member.weight),
+    )?;
     Ok(TDistItem { range, weight })
 }
 
@@ -102,8 +104,7 @@ fn copy_unique(alloc: Global, members: &[TExpr]) -> Result<TItem, NoMemory>
 fn copy_implication(alloc: Global, body: &[TItem], test: &TExpr) -> Result<TItem, NoMemory>
     ensures { IfOk result (λ copy. copy ≡ TItem.Implies test.now body.now) }
 {
-    let test = copy_expr(alloc, test)?;
-    let body = copy_items(alloc, body)?;
+    let (test, body) = both(copy_expr(alloc, test), copy_items(alloc, body))?;
     Ok(TItem::Implies { test, body })
 }
 
@@ -111,8 +112,7 @@ fn copy_implication(alloc: Global, body: &[TItem], test: &TExpr) -> Result<TItem
 fn copy_branch(alloc: Global, yes: &[TItem], test: &TExpr) -> Result<TItem, NoMemory>
     ensures { IfOk result (λ copy. copy ≡ TItem.Branch test.now yes.now None) }
 {
-    let test = copy_expr(alloc, test)?;
-    let yes = copy_items(alloc, yes)?;
+    let (test, yes) = both(copy_expr(alloc, test), copy_items(alloc, yes))?;
     Ok(TItem::Branch {
         test,
         yes,
@@ -129,8 +129,8 @@ fn copy_branch_else(
 ) -> Result<TItem, NoMemory>
     ensures { IfOk result (λ copy. copy ≡ TItem.Branch test.now yes.now (Some no)) }
 {
-    let test = copy_expr(alloc, test)?;
-    let yes = copy_items(alloc, yes)?;
+    let parts = both(copy_expr(alloc, test), copy_items(alloc, yes));
+    let (no, (test, yes)) = beside(no, parts)?;
     Ok(TItem::Branch {
         test,
         yes,
@@ -167,8 +167,7 @@ fn copy_disable(alloc: Global, target: &TExpr) -> Result<TItem, NoMemory>
 fn copy_solve(alloc: Global, first: &[TExpr], later: &[TExpr]) -> Result<TItem, NoMemory>
     ensures { IfOk result (λ copy. copy ≡ TItem.Solve first.now later.now) }
 {
-    let first = copy_exprs(alloc, first)?;
-    let later = copy_exprs(alloc, later)?;
+    let (first, later) = both(copy_exprs(alloc, first), copy_exprs(alloc, later))?;
     Ok(TItem::Solve { first, later })
 }
 
@@ -212,7 +211,9 @@ pub fn copy_prop(alloc: Global, prop: &Prop) -> Result<Prop, NoMemory>
 pub fn copy_block(alloc: Global, block: &TBlock) -> Result<TBlock, NoMemory>
     ensures { IfOk result (λ copy. copy ≡ block.now) }
 {
-    let name = copy_text(alloc, &block.name)?;
-    let items = copy_items(alloc, block.items.as_slice())?;
+    let (name, items) = both(
+        copy_text(alloc, &block.name),
+        copy_items(alloc, block.items.as_slice()),
+    )?;
     Ok(TBlock { name, items })
 }

@@ -6,7 +6,7 @@ ghost use Rattle.svr_flat.specs.Along.{StandsOver, blocks_along, stacked};
 ghost use Rattle.svr_flat.specs.Named.{bytes_of, and_names, not_named};
 
 use crate::items::copy_block;
-use crate::memory::push;
+use crate::memory::{both, push, pushed};
 use crate::names::{is_among, with_names};
 use indexmap::IndexSet;
 use sqlite_items::Items;
@@ -58,16 +58,17 @@ fn standing(
 /// What stands of a class's own blocks behind what stands of the classes below it, whose blocks have these names; and the names with its own.
 fn and_class<'a>(
     alloc: Global,
-    kept: &mut Vec<Items<TBlock>>,
+    kept: Vec<Items<TBlock>>,
     names: IndexSet<&'a [u8]>,
     own: &'a [TBlock],
-) -> Result<IndexSet<&'a [u8]>, NoMemory>
-    ensures names { IfOk result (λ s. map bytes_of s.keys ≡ and_names (map bytes_of names.entry.keys) (block_terms own.now)) }
-    ensures kept { OnOk result (map block_terms kept.new.items ≡ map block_terms kept.old.items ++ not_named (map bytes_of names.entry.keys) (block_terms own.now) ∷ []) }
+) -> Result<(Vec<Items<TBlock>>, IndexSet<&'a [u8]>), NoMemory>
+    ensures kept { IfOk result (λ r. map block_terms r.0.items ≡ map block_terms kept.items ++ not_named (map bytes_of names.entry.keys) (block_terms own.now) ∷ []) }
+    ensures names { IfOk result (λ r. map bytes_of r.1.keys ≡ and_names (map bytes_of names.entry.keys) (block_terms own.now)) }
 {
-    let own_kept = standing(alloc, own, &names)?;
-    push(kept, own_kept)?;
-    Ok(with_names(names, own)?)
+    let own_kept = standing(alloc, own, &names);
+    let kept = pushed(kept, own_kept);
+    let (kept, names) = both(kept, with_names(names, own))?;
+    Ok((kept, names))
 }
 
 /// The own blocks of the first class of a lineage over given blocks, the rest of the lineage, and what that stands over; where there is no such class nothing stands.
@@ -103,12 +104,14 @@ fn upward<'a>(
     let mut left = lineage;
     let mut above = base;
     'classes: while let Some((own, others, inherited)) = split_class(classes, left, above) {
-        names = and_class(alloc, &mut kept, names, own)?;
+        let (longer, more) = and_class(alloc, kept, names, own)?;
+        kept = longer;
+        names = more;
         left = others;
         above = inherited;
     }
-    let last = standing(alloc, above, &names)?;
-    push(&mut kept, last)?;
+    let last = standing(alloc, above, &names);
+    let kept = pushed(kept, last)?;
     Ok(kept)
 }
 

@@ -1,3 +1,4 @@
 pub mod Found
 pub mod Closing
 pub mod Blind
+pub mod Mapped

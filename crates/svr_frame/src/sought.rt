@@ -11,7 +11,7 @@ use crate::part::Part;
 use svr_typed::{TBound, TDistItem, TExpr, TNode, TRange};
 
 /// What is looked for in an expression.
-#[derive(Clone, Copy, Debug, PartialEq, Eq)]
+#[derive(Clone, Copy)]
 pub enum Sought {
     /// A property that is random in this call (IEEE 1800-2017, 18.4).
     Random,

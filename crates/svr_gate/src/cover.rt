@@ -6,7 +6,7 @@ ghost use Rattle.svr_gate.specs.Covers.{is_cover, short_count};
 use crate::table;
 
 /// The rows of a table that read as `row` at the inputs whose bits are set in `mask`.
-#[derive(Clone, Copy, Debug)]
+#[derive(Clone, Copy)]
 pub struct Cube {
     pub row: u16,
     pub mask: u16,

@@ -8,7 +8,7 @@ use crate::gate::Gate;
 use svr_chain::Lit;
 
 /// What a gate is without clauses of its own.
-#[derive(Clone, Copy, Debug)]
+#[derive(Clone, Copy)]
 pub(crate) enum GateKind {
     /// It has this value in each row.
     Constant(bool),
@@ -65,11 +65,12 @@ pub(crate) fn kind_of(gate: &Gate) -> GateKind
         return GateKind::Constant(true);
     }
     for place in 0..gate.count {
+        let lit = ins[place];
         if is_copy(gate.table, gate.count, place, true) {
-            return GateKind::Copy(ins[place]);
+            return GateKind::Copy(lit);
         }
         if is_copy(gate.table, gate.count, place, false) {
-            return GateKind::Copy(ins[place].flipped());
+            return GateKind::Copy(lit.flipped());
         }
     }
     GateKind::Proper

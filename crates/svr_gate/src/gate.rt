@@ -9,7 +9,7 @@ use svr_chain::Lit;
 pub(crate) const NO_INPUT: Lit = Lit { var: 0, neg: false };
 
 /// A table over `count` inputs, which stand first among the four places.
-#[derive(Clone, Copy, Debug, PartialEq, Eq, Hash)]
+#[derive(Clone, Copy, PartialEq, Eq, Hash)]
 pub struct Gate {
     pub count: usize,
     pub table: u16,

@@ -33,13 +33,13 @@ fn clause(
     let mut mask = cube.mask;
     for lit in ins {
         if mask % 2 == 1 {
-            lits.push(input_of_row(*lit, row))?;
+            lits.push_reserved(input_of_row(*lit, row));
         }
         row /= 2;
         mask /= 2;
     }
     let neg = (table >> cube.row) % 2 == 0;
-    lits.push(Lit { var: out, neg })?;
+    lits.push_reserved(Lit { var: out, neg });
     Ok(Clause::new(lits))
 }
 
@@ -57,7 +57,7 @@ fn cubes(
 {
     let mut clauses = Vec::with_capacity(alloc, cubes.len())?;
     for cube in cubes {
-        clauses.push(clause(alloc, table, ins, out, *cube)?)?;
+        clauses.push_reserved(clause(alloc, table, ins, out, *cube)?);
     }
     Ok(clauses)
 }
@@ -76,7 +76,7 @@ fn rows(
 {
     let mut clauses = Vec::with_capacity(alloc, count as usize)?;
     for row in 0..count {
-        clauses.push(clause(alloc, table, ins, out, Cube { row, mask: 0xf })?)?;
+        clauses.push_reserved(clause(alloc, table, ins, out, Cube { row, mask: 0xf })?);
     }
     Ok(clauses)
 }

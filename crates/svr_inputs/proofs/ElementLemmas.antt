@@ -1,11 +1,12 @@
 -- Vectors for elements in a row, and the one that an index names
-use Rattle.std.proofs.Common.{◌≡◌, ℕ, zero, suc, ◌+◌, ◌*◌, ◌<◌, ◌≤◌, ◌==◌, ◌||◌, Bool, true, false, cond, ltb, List, [], ◌∷◌, ◌++◌, length, get_or, refl, sym, ap, ◌∙◌, arith, subst, add-one, pos, negsuc, ℤ, ⊎_elim, Vec, Global}
+use Rattle.std.proofs.Common.{◌≡◌, ℕ, zero, suc, ◌+◌, ◌*◌, ◌^◌, ◌<◌, ◌≤◌, ◌==◌, ◌||◌, Bool, true, false, cond, ltb, List, [], ◌∷◌, ◌++◌, length, get_or, refl, sym, ap, ◌∙◌, arith, subst, add-one, pos, negsuc, ℤ, ⊎_elim, Vec, Global}
 use Rattle.std.proofs.lemmas.List.{map_push}
+use Rattle.std.proofs.lemmas.Nat.{row_fits}
 use Rattle.svr_vector.specs.Places.{rows}
 use Rattle.svr_inputs.specs.declared.inputs.Inputs.{Inputs}
 use Rattle.svr_inputs.specs.Inputs.{read_at, AreInputs}
 use Rattle.svr_inputs.proofs.ReadLemmas.{past_zero}
-use Rattle.std.specs.Prelude.{nat_lt, if◌then◌else◌, slice_index}
+use Rattle.std.specs.Prelude.{nat_lt, if◌then◌else◌, slice_index, Result, Ok, Err, IfOk}
 use Rattle.std.specs.List.{All}
 use Rattle.std.proofs.lemmas.Bool.{le-ltb, lt-ltb, cases_lt}
 use Rattle.std.proofs.lemmas.List.Elements.{All-nil, All-cons}
@@ -15,9 +16,9 @@ use Rattle.svr_chain.specs.Valuations.{lit_value, Meets}
 use Rattle.svr_gate.specs.Numbers.{number}
 use Rattle.svr_gate.specs.Circuit.{Circuit, Extends, Tells, GivesNumber}
 use Rattle.svr_gate.proofs.Circuits.{Tells-same}
-use Rattle.svr_num.specs.Num.{extend_of}
+use Rattle.svr_num.specs.Num.{extend_of, read_of}
 use Rattle.svr_gate.proofs.NumberLemmas.{number-nil}
-use Rattle.svr_gate.proofs.Vectors.{GivesNumber-later}
+use Rattle.svr_gate.proofs.Vectors.{GivesNumber-later, GivesNumber-same}
 use Rattle.svr_eval.specs.Reading.{Reading}
 use Rattle.svr_eval.specs.Value.{element_at, cell_at, any_below}
 use Rattle.svr_vector.specs.Places.{AreVectors, number_at}
@@ -172,3 +173,22 @@ found_more {c} {d} {e} {f} i p k n w s x y equal found next pc pd pe t g q u at 
     ∙ ap (λ b. any_below n (λ j. number v x == extend_of s (length x) w ((read_at i v).element p j)) || b)
     (q.value v (pe.keeps v m) ∙ ap (λ z. number v x == z) (g.value v md ∙ ap (λ j. extend_of s (length x) w ((read_at i v).element p j)) at))
     ∙ ap (λ j. any_below j (λ h. number v x == extend_of s (length x) w ((read_at i v).element p h))) (sym (add-one n)))
+
+-- the places of a row fit
+pub row_end : (row inner a b : ℕ) → a ≡ row → b ≡ inner → row < 2 ^ 32 → inner < 2 ^ 32 → a * b + inner < 2 ^ 64
+row_end row inner a b is_row is_inner p q =
+    let fits : row * inner + inner ≤ 4294967296 * 4294967295 = row_fits row inner 4294967296 4294967295 p (omega (arith, q)) in
+    let at : a * b ≡ row * inner = ap (λ n. n * b) is_row ∙ ap (λ n. row * n) is_inner in
+    omega (arith, fits, at)
+
+-- two indexes that are known
+pub cell_known : {E : Type 0} {c d : Circuit} (read : (ℕ → Bool) → Reading) (p m w first second : ℕ) (row column : List Lit) (s t : Bool) (x y : ℤ) (r : Result (Vec Lit Global) E) → GivesNumber c row (length row) (λ v. first)
+    → GivesNumber c column (length column) (λ v. second) → Extends c d → x ≡ read_of s (length row) first → y ≡ read_of t (length column) second → IfOk r (λ ls. GivesNumber d ls.items w (λ v. cell_at (read v) p m x y))
+    → IfOk r (λ ls. GivesNumber d ls.items w (λ v. cell_at (read v) p m (read_of s (length row) (number v row)) (read_of t (length column) (number v column))))
+cell_known read p m w first second row column s t x y (Err e) f g later is_x is_y h = tt
+cell_known read p m w first second row column s t x y (Ok ls) f g later is_x is_y h =
+    GivesNumber-same (λ v. cell_at (read v) p m (read_of s (length row) (number v row)) (read_of t (length column) (number v column))) h
+    (λ v met.
+    let here = later.keeps v met in
+    ap (λ z. cell_at (read v) p m z y) (is_x ∙ ap (read_of s (length row)) (sym (f.value v here)))
+    ∙ ap (cell_at (read v) p m (read_of s (length row) (number v row))) (is_y ∙ ap (read_of t (length column)) (sym (g.value v here))))

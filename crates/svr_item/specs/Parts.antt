@@ -15,7 +15,10 @@ use Rattle.svr_reader.specs.declared.fault.ReadFault.TheVariants.{NoMemory}
 use Rattle.svr_reader.specs.Outcomes.{Outcome}
 use Rattle.svr_reader.specs.Answers.{Gives, stop_of}
 use Rattle.svr_reader.specs.Calls.{cap, height_view}
+use Rattle.svr_expr.specs.ExprRules.{Node, a_path, a_member}
 use Rattle.svr_item.specs.ItemRules.{item}
+use Rattle.svr_item.specs.declared.led.Listed.{Listed}
+use Rattle.svr_item.specs.declared.led.Listed.TheVariants as listed
 
 abbrev pub weight_view : Option (Share × Expr) → Option (Share × ExprTree)
 weight_view g = option_map weight_tree g
@@ -25,6 +28,11 @@ dist_view d = option_map dist_tree d
 
 abbrev pub else_view : Option Set → ElseTree
 else_view s = else_of (option_map set_tree s)
+
+-- what a part of a list is read as
+abbrev pub node_listed : Listed → Node
+node_listed listed.Path = a_path
+node_listed listed.Member = a_member
 
 -- what was found before stays, and what is found behind it is the outcome's, want of memory aside
 abbrev pub Behind : {A T X : Type 0} → A → (T → X) → Outcome X → Result (A × T) ReadFault → List Tok → Type 0

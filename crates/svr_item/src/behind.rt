@@ -2,7 +2,6 @@
 
 ghost use Rattle.svr_reader.specs.Answers.{plainly};
 ghost use Rattle.svr_reader.specs.Lists.{name};
-ghost use Rattle.svr_reader.specs.Outcomes.{taken};
 ghost use Rattle.svr_reader.specs.Steps.{expected};
 ghost use Rattle.svr_item.specs.Parts.{Behind, Grows, Stays};
 
@@ -17,16 +16,6 @@ pub fn ended<T: Drop>(cursor: &mut Cursor<'_>, found: T, end: Fixed) -> Result<T
 {
     match cursor.expect(end) {
         Ok(()) => Ok(found),
-        Err(fault) => Err(fault),
-    }
-}
-
-/// What was found, and the number of the next token, which is taken.
-pub(crate) fn take_behind<T: Drop>(cursor: &mut Cursor<'_>, found: T) -> Result<(T, u32), ReadFault>
-    ensures { Behind found (λ n. n) (taken cursor.old) result cursor.new }
-{
-    match cursor.take() {
-        Ok(at) => Ok((found, at)),
         Err(fault) => Err(fault),
     }
 }

@@ -8,10 +8,10 @@ ghost use Rattle.svr_tree.specs.ItemTree.{item_tree};
 ghost use Rattle.svr_item.specs.ItemRules as spec;
 ghost use Rattle.svr_item.specs.Parts.{ReadsItems};
 
-use crate::behind::{ended, take_behind};
+use crate::behind::ended;
 use crate::reader::Reader;
 use std::alloc::Global;
-use svr_expr::{expr, rest_of_operand};
+use svr_expr::{expr, rest_of_operand, take_beside};
 use svr_reader::{Cursor, Fixed, ReadFault};
 use svr_token::{Lexeme, Mark};
 use svr_tree::{Expr, Item, level};
@@ -76,7 +76,7 @@ impl<F: Fn(Global, &mut Cursor<'_>, usize) -> Result<(Item, usize), ReadFault>> 
         ensures gives { Gives (height_view item_tree) (spec.within cap self.now.room (spec.implies_on at (height_view expr_tree (test, height))) cursor.old) result cursor.new }
         ensures low { IfOk result (λ x. x.1 ≤ self.now.room + 1) }
     {
-        let (test, _) = take_behind(cursor, test)?;
+        let (test, _) = take_beside(cursor, test)?;
         let (test, (body, body_height)) = self.set_behind(cursor, test)?;
         Ok((Item::implies(at, test, body), height.max(body_height) + 1))
     }

@@ -8,9 +8,9 @@ ghost use Rattle.svr_reader.specs.Lists as lists;
 ghost use Rattle.svr_tree.specs.ExprTree.{expr_tree};
 ghost use Rattle.svr_tree.specs.ItemTree as tree;
 ghost use Rattle.svr_tree.specs.ItemTree.{item_tree, set_tree};
-ghost use Rattle.svr_expr.specs.ExprRules.{a_path, a_member};
+ghost use Rattle.svr_expr.specs.ExprRules.{node, a_path};
 ghost use Rattle.svr_item.specs.ItemRules as spec;
-ghost use Rattle.svr_item.specs.Parts.{Behind, ReadsItems, else_view};
+ghost use Rattle.svr_item.specs.Parts.{Behind, ReadsItems, else_view, node_listed};
 
 use crate::behind::{ended, named, pushed};
 use crate::reader::Reader;
@@ -20,6 +20,14 @@ use svr_expr::{expr, member, path};
 use svr_reader::{Cursor, Fixed, ReadFault, listing};
 use svr_token::{Mark, Word};
 use svr_tree::{Expr, Item, Set, level};
+
+/// What the parts of a list are.
+#[derive(Clone, Copy)]
+pub(crate) enum Listed {
+    Path,
+    /// A path and its indices.
+    Member,
+}
 
 /// An `if` of these parts.
 fn branch(at: u32, test: Expr, yes: Set, no: Option<Set>) -> Item
@@ -44,16 +52,23 @@ impl<F: Fn(Global, &mut Cursor<'_>, usize) -> Result<(Item, usize), ReadFault>> 
         self.plain_on(cursor, at, true, expr, height)
     }
 
-    /// Paths with commas between them.
-    fn paths(&self, cursor: &mut Cursor<'_>) -> Result<(Items<Expr>, usize), ReadFault>
-        ensures gives { Gives (heights_view expr_tree) (spec.within cap self.now.room (lists.listing (call (spec.a_node a_path))) cursor.old) result cursor.new }
+    /// A part of a list of this kind.
+    fn listed(&self, cursor: &mut Cursor<'_>, kind: Listed) -> Result<(Expr, usize), ReadFault>
+        ensures gives { Gives (height_view expr_tree) (node cap self.now.room (node_listed kind) cursor.old) result cursor.new }
         ensures low { IfOk result (λ x. x.1 ≤ self.now.room) }
     {
-        listing(
-            self.alloc,
-            cursor,
-            |cursor| path(self.alloc, cursor, self.room),
-        )
+        match kind {
+            Listed::Path => path(self.alloc, cursor, self.room),
+            Listed::Member => member(self.alloc, cursor, self.room),
+        }
+    }
+
+    /// Such parts with commas between them.
+    fn list(&self, cursor: &mut Cursor<'_>, kind: Listed) -> Result<(Items<Expr>, usize), ReadFault>
+        ensures gives { Gives (heights_view expr_tree) (spec.within cap self.now.room (lists.listing (call (spec.a_node (node_listed kind)))) cursor.old) result cursor.new }
+        ensures low { IfOk result (λ x. x.1 ≤ self.now.room) }
+    {
+        listing(self.alloc, cursor, |cursor| self.listed(cursor, kind))
     }
 
     /// Paths with commas between them, behind what was found.
@@ -65,22 +80,10 @@ impl<F: Fn(Global, &mut Cursor<'_>, usize) -> Result<(Item, usize), ReadFault>> 
         ensures gives { Behind found (heights_view expr_tree) (spec.within cap self.now.room (lists.listing (call (spec.a_node a_path))) cursor.old) result cursor.new }
         ensures low { IfOk result (λ x. x.1.1 ≤ self.now.room) }
     {
-        match self.paths(cursor) {
+        match self.list(cursor, Listed::Path) {
             Ok(paths) => Ok((found, paths)),
             Err(fault) => Err(fault),
         }
-    }
-
-    /// Paths with indices, with commas between them.
-    fn members(&self, cursor: &mut Cursor<'_>) -> Result<(Items<Expr>, usize), ReadFault>
-        ensures gives { Gives (heights_view expr_tree) (spec.within cap self.now.room (lists.listing (call (spec.a_node a_member))) cursor.old) result cursor.new }
-        ensures low { IfOk result (λ x. x.1 ≤ self.now.room) }
-    {
-        listing(
-            self.alloc,
-            cursor,
-            |cursor| member(self.alloc, cursor, self.room),
-        )
     }
 
     /// `unique { members };`
@@ -92,7 +95,7 @@ impl<F: Fn(Global, &mut Cursor<'_>, usize) -> Result<(Item, usize), ReadFault>> 
     {
         let at = cursor.enter(self.room, 1)?;
         cursor.expect(Fixed::Mark(Mark::OpenBrace))?;
-        let (members, height) = self.members(cursor)?;
+        let (members, height) = self.list(cursor, Listed::Member)?;
         let members = ended(cursor, members, Fixed::Mark(Mark::CloseBrace))?;
         let item = ended(
             cursor,
@@ -125,7 +128,7 @@ impl<F: Fn(Global, &mut Cursor<'_>, usize) -> Result<(Item, usize), ReadFault>> 
         ensures low { IfOk result (λ x. x.1 ≤ self.now.room + 1) }
     {
         let at = cursor.enter(self.room, 1)?;
-        let (first, first_height) = self.paths(cursor)?;
+        let (first, first_height) = self.list(cursor, Listed::Path)?;
         let first = ended(cursor, first, Fixed::Word(Word::Before))?;
         let (first, (later, later_height)) = self.paths_behind(cursor, first)?;
         let item = Item::solve(at, first, later);

@@ -3,7 +3,7 @@ ghost use Rattle.std.specs.Prelude.{◌≡◌};
 ghost use Rattle.svr_lex.specs.Lexing.{fault_of, fault_at};
 
 /// Why a text has no tokens. `at` is the place of a byte, counted from 0.
-#[derive(Clone, Copy, Debug, PartialEq, Eq)]
+#[derive(Clone, Copy, PartialEq, Eq)]
 pub enum LexFault {
     /// No lexeme and no gap begins with the byte, or it is a `$` before a name with which it is no system name.
     BadByte { at: u32 },
@@ -18,7 +18,7 @@ pub enum LexFault {
 }
 
 /// A fault of the text at hand, whatever its place.
-#[derive(Clone, Copy, Debug, PartialEq, Eq)]
+#[derive(Clone, Copy)]
 pub(crate) enum Flaw {
     BadByte,
     OpenComment,

@@ -5,14 +5,14 @@ use std::marker::Model;
 use svr_chain::Clause;
 
 /// A number as a file writes it: a size, and perhaps a minus sign.
-#[derive(Clone, Copy, Debug, PartialEq, Eq)]
+#[derive(Clone, Copy, PartialEq, Eq)]
 pub struct Number {
     pub negative: bool,
     pub size: u64,
 }
 
 /// A line of a derivation.
-#[derive(Debug, Drop)]
+#[derive(Drop)]
 pub enum Line {
     /// A clause under a new identifier, with hints: the identifiers of the clauses from which it follows, in the order of unit propagation. A negative hint would begin a part that resolves on a literal (RAT).
     Lemma {
@@ -28,7 +28,7 @@ pub enum Line {
 }
 
 /// A formula, whose clauses have the identifiers 1, 2, 3 and so on, and a derivation from it.
-#[derive(Debug, Drop)]
+#[derive(Drop)]
 pub struct LratFile {
     /// The literals are over the variables 1 to `vars`.
     pub vars: u64,

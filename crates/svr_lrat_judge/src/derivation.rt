@@ -16,7 +16,7 @@ use svr_chain::{Clause, Lit, NoMemory};
 use svr_lrat_file::{Line, LratFile, Number};
 
 /// A line at fault.
-#[derive(Clone, Copy, Debug, PartialEq, Eq)]
+#[derive(Clone, Copy, PartialEq, Eq)]
 pub(crate) struct Fault {
     id: u64,
     reason: LratReason,

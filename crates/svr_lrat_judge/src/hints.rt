@@ -12,7 +12,7 @@ use svr_chain::{Clause, Lit, NoMemory};
 use svr_lrat_file::Number;
 
 /// What a hint's clause says where some literals are true.
-#[derive(Clone, Copy, Debug, PartialEq, Eq)]
+#[derive(Clone, Copy)]
 pub(crate) enum Hinted {
     /// It is false, so the lemma is shown.
     Shown,

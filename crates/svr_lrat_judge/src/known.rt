@@ -11,7 +11,7 @@ use std::marker::Model;
 use svr_chain::{Lit, NoMemory};
 
 /// Which literals of a variable are marked.
-#[derive(Clone, Copy, Debug, PartialEq, Eq)]
+#[derive(Clone, Copy)]
 pub(crate) struct Sides {
     positive: bool,
     negative: bool,

@@ -1,7 +1,7 @@
 // What is said of a file.
 
 /// Why a line is rejected. Each reason is tested in this order: `Order` for the line, the next three at each hint in turn, `Short` behind the last hint.
-#[derive(Clone, Copy, Debug, PartialEq, Eq)]
+#[derive(Clone, Copy, PartialEq, Eq)]
 pub enum LratReason {
     /// The identifier of the lemma is not greater than the number of clauses and than those of all lemmas before.
     Order,
@@ -20,7 +20,7 @@ pub enum LratReason {
 }
 
 /// What is said of a file: accepted, or the identifier of its first line at fault, which is 0 at the end of the file, and the first reason there.
-#[derive(Clone, Copy, Debug, PartialEq, Eq)]
+#[derive(Clone, Copy, PartialEq, Eq)]
 pub enum LratVerdict {
     Accepted,
     Rejected { id: u64, reason: LratReason },

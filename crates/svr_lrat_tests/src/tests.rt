@@ -139,9 +139,8 @@ const FAULTS: [(&[u8], LratFault); 37] = [
 fn accepted(rt: HostRuntime) -> Result<(), Fail> {
     for text in &ACCEPTED {
         assert!(rt; text.len() <= 100);
-        assert_eq!(rt;
-            check_lrat(rt.alloc(), text),
-            Ok(LratVerdict::Accepted),
+        assert!(rt;
+            check_lrat(rt.alloc(), text) == Ok(LratVerdict::Accepted),
             "at {text:?}"
         );
     }
@@ -152,14 +151,11 @@ fn accepted(rt: HostRuntime) -> Result<(), Fail> {
 fn rejected(rt: HostRuntime) -> Result<(), Fail> {
     for (text, id, reason) in &REJECTED {
         assert!(rt; text.len() <= 100);
-        assert_eq!(rt;
-            check_lrat(rt.alloc(), text),
-            Ok(LratVerdict::Rejected {
-                id: *id,
-                reason: *reason
-            }),
-            "at {text:?}"
-        );
+        let wanted = LratVerdict::Rejected {
+            id: *id,
+            reason: *reason,
+        };
+        assert!(rt; check_lrat(rt.alloc(), text) == Ok(wanted), "at {text:?}");
     }
     Ok(())
 }
@@ -168,7 +164,7 @@ fn rejected(rt: HostRuntime) -> Result<(), Fail> {
 fn faults(rt: HostRuntime) -> Result<(), Fail> {
     for (text, fault) in &FAULTS {
         assert!(rt; text.len() <= 100);
-        assert_eq!(rt; check_lrat(rt.alloc(), text), Err(*fault), "at {text:?}");
+        assert!(rt; check_lrat(rt.alloc(), text) == Err(*fault), "at {text:?}");
     }
     Ok(())
 }

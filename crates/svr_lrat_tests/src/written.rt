@@ -152,7 +152,7 @@ fn writes_logs(rt: HostRuntime) -> Result<(), Fail> {
 fn accepts_what_is_written(rt: HostRuntime) -> Result<(), Fail> {
     for (_, _, _, _, text) in &CASES {
         assert!(rt; text.len() <= 100);
-        assert_eq!(rt; check_lrat(rt.alloc(), text), Ok(LratVerdict::Accepted));
+        assert!(rt; check_lrat(rt.alloc(), text) == Ok(LratVerdict::Accepted));
     }
     Ok(())
 }

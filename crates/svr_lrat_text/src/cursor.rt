@@ -12,7 +12,7 @@ use crate::word::{Word, is_blank, word_of};
 use std::marker::Model;
 
 /// A token, and the place of its first byte.
-#[derive(Clone, Copy, Debug, PartialEq, Eq)]
+#[derive(Clone, Copy, PartialEq, Eq)]
 pub(crate) struct Token {
     pub(crate) at: u32,
     pub(crate) word: Word,

@@ -7,7 +7,7 @@ ghost use Rattle.svr_lrat_text.specs.Words.{tokens, tokens_of};
 use crate::word::is_blank;
 
 /// In what part of a text a byte stands.
-#[derive(Clone, Copy, Debug, PartialEq, Eq)]
+#[derive(Clone, Copy, PartialEq, Eq)]
 pub(crate) enum Part {
     /// Before the first byte of a line.
     LineStart,

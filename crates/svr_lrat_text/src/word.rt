@@ -9,7 +9,7 @@ use crate::limits::MOST_SIZE;
 use svr_lrat_file::Number;
 
 /// What a token says.
-#[derive(Clone, Copy, Debug, PartialEq, Eq)]
+#[derive(Clone, Copy, PartialEq, Eq)]
 pub(crate) enum Word {
     /// `p`, with which the header begins.
     Problem,

@@ -9,7 +9,7 @@ use std::marker::Model;
 ///
 /// No call takes memory or refuses. Each is total: a divisor of 0 and a shift past the width
 /// have their results too.
-#[derive(Clone, Copy, Debug, PartialEq, Eq)]
+#[derive(Clone, Copy, PartialEq, Eq)]
 pub struct Bits {
     value: u64,
     width: u8,

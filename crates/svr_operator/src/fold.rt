@@ -1,7 +1,7 @@
 // The methods that reduce an array.
 
 /// An array reduction method (IEEE 1800-2017, 7.12.3).
-#[derive(Clone, Copy, Debug, PartialEq, Eq)]
+#[derive(Clone, Copy, PartialEq, Eq)]
 pub enum Fold {
     /// `sum`, which begins with 0
     Sum,

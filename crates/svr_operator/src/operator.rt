@@ -1,7 +1,7 @@
 // Operators (IEEE 1800-2017, 11.4). One that has two spellings has a variant for each.
 
 /// A unary operator (IEEE 1800-2017, table 11-1).
-#[derive(Clone, Copy, Debug, PartialEq, Eq)]
+#[derive(Clone, Copy, PartialEq, Eq)]
 pub enum UnOp {
     /// `+`
     Plus,
@@ -28,7 +28,7 @@ pub enum UnOp {
 }
 
 /// A binary operator (IEEE 1800-2017, table 11-1).
-#[derive(Clone, Copy, Debug, PartialEq, Eq)]
+#[derive(Clone, Copy, PartialEq, Eq)]
 pub enum BinOp {
     /// `*`
     Multiply,

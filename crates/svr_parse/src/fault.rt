@@ -3,7 +3,7 @@
 use std::alloc::AllocError;
 
 /// Why tokens have no tree. A place is the number of a token, counted from 0; as many as there are tokens: the end of the text.
-#[derive(Clone, Copy, Debug, PartialEq, Eq)]
+#[derive(Clone, Copy, PartialEq, Eq)]
 pub enum ParseError {
     /// No script goes on with the token, whatever its height, and some script goes on behind the tokens before it.
     Unexpected { token: u32 },

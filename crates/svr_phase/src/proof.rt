@@ -4,7 +4,7 @@ use sqlite_items::Items;
 use svr_chain::{Lit, Refutation};
 
 /// What a proof refutes: the hard items; the hard items of the sizes; a value of a cyclic property, of its whole domain or of those that were unused before a new cycle; the soft item of a rank.
-#[derive(Clone, Copy, Debug, PartialEq, Eq)]
+#[derive(Clone, Copy)]
 pub enum ProofReason {
     Hard,
     Size,
@@ -14,7 +14,7 @@ pub enum ProofReason {
 }
 
 /// A refutation of the assumed literals together with the clauses of an encoding, which is named by its place in the list that the answer carries.
-#[derive(Debug, Drop)]
+#[derive(Drop)]
 pub struct Proof {
     pub encoding: u32,
     pub assume: Items<Lit>,
@@ -23,7 +23,7 @@ pub struct Proof {
 }
 
 /// A cyclic property with which a new cycle began, and a proof for each of its unused values, in the order in which they were tried.
-#[derive(Debug, Drop)]
+#[derive(Drop)]
 pub struct Renewed {
     pub prop: u32,
     pub proofs: Items<Proof>,

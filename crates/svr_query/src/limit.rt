@@ -14,7 +14,7 @@ use svr_cdcl::Search;
 use svr_chain::{Clause, Lit, Step};
 
 /// The steps that a question may take, and how many of the first variables settle the others, where that is known.
-#[derive(Clone, Copy, Debug)]
+#[derive(Clone, Copy)]
 pub struct Limit {
     pub steps: u64,
     pub bits: Option<usize>,

@@ -18,7 +18,7 @@ use svr_cdcl::{Learned, Search};
 use svr_chain::{Clause, Lit, Step};
 
 /// What the assumed literals ask for next: a decision, the end since one of them is false, or nothing more.
-#[derive(Clone, Copy, Debug)]
+#[derive(Clone, Copy)]
 pub enum Assumed {
     Decide(Lit),
     Denied(Lit),
@@ -26,7 +26,7 @@ pub enum Assumed {
 }
 
 /// What the search found. A refutation ends with a derived clause whose literals are all denied.
-#[derive(Debug, Drop)]
+#[derive(Drop)]
 pub enum Found {
     Satisfied,
     Refuted(Learned),
@@ -34,7 +34,7 @@ pub enum Found {
 }
 
 /// The first `lits` assumed literals are true by the first `entries` entries of the trail.
-#[derive(Clone, Copy, Debug)]
+#[derive(Clone, Copy)]
 pub struct Seen {
     pub lits: usize,
     pub entries: usize,

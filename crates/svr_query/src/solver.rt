@@ -20,7 +20,7 @@ use svr_cdcl::{Learned, Search};
 use svr_chain::{Clause, Cnf, Lit, Refutation, Step};
 
 /// The answer to a question.
-#[derive(Debug, Drop)]
+#[derive(Drop)]
 pub enum Answer {
     /// The values of the variables from 1 on. They meet the clauses and the assumed literals.
     Satisfied(Vec<bool>),
@@ -31,7 +31,7 @@ pub enum Answer {
 }
 
 /// Clauses, the steps that were derived from them, and the search over both.
-#[derive(Debug, Drop)]
+#[derive(Drop)]
 pub struct Solver {
     cnf: Cnf,
     search: Search,

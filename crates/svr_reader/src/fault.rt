@@ -3,7 +3,7 @@
 use std::alloc::AllocError;
 
 /// Why a reader stops. A place is told by the number of tokens that are left there.
-#[derive(Clone, Copy, Debug, PartialEq, Eq)]
+#[derive(Clone, Copy, PartialEq, Eq)]
 pub enum ReadFault {
     /// The token, or the end of the text, can't stand here.
     Unexpected(usize),

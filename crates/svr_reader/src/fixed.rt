@@ -6,7 +6,7 @@ ghost use Rattle.svr_reader.specs.Steps as spec;
 use svr_token::{Lexeme, Mark, Word};
 
 /// A reserved word or a mark.
-#[derive(Clone, Copy, Debug, PartialEq, Eq)]
+#[derive(Clone, Copy, PartialEq, Eq)]
 pub enum Fixed {
     Word(Word),
     Mark(Mark),

@@ -22,7 +22,7 @@ pub(crate) enum Told<'a> {
 }
 
 /// What an expression, its indexes included, reads of a property: its number, as one reads a scalar; an element of it, or the whole array; its size. At a node that is the property the first two are true.
-#[derive(Clone, Copy, Debug, PartialEq, Eq)]
+#[derive(Clone, Copy)]
 pub struct PropertyReads {
     pub number: bool,
     pub element: bool,

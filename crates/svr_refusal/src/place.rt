@@ -5,7 +5,7 @@ ghost use Rattle.svr_refusal.specs.Place as spec;
 use svr_token::Token;
 
 /// A line and a column, both counted from 1. A newline ends a line, and each byte takes one column.
-#[derive(Clone, Copy, Debug, PartialEq, Eq)]
+#[derive(Clone, Copy, PartialEq, Eq)]
 pub struct Place {
     pub line: u32,
     pub column: u32,

@@ -4,7 +4,7 @@ ghost use Rattle.std.specs.Prelude.{◌≡◌};
 ghost use Rattle.svr_refusal.specs.Numbers as spec;
 
 /// Why a text is refused. Each says where it stands.
-#[derive(Clone, Copy, Debug, PartialEq, Eq)]
+#[derive(Clone, Copy, PartialEq, Eq)]
 pub enum Refusal {
     /// A byte that begins no lexeme and no gap, or `$` before a letter or `_` that is no system name: the byte.
     BadByte,

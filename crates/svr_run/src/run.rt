@@ -26,7 +26,7 @@ use svr_typed::Design;
 use svr_world::Watch;
 
 /// How a run ends: it came to its end, with so many answers; its last call met a limit; or it stopped before.
-#[derive(Clone, Copy, Debug, PartialEq, Eq)]
+#[derive(Clone, Copy, PartialEq, Eq)]
 pub enum End {
     Ended(Counts),
     Limit,

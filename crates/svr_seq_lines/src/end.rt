@@ -3,7 +3,7 @@
 use svr_refusal::Place;
 
 /// What is said of a text.
-#[derive(Clone, Copy, Debug, PartialEq, Eq)]
+#[derive(Clone, Copy, PartialEq, Eq)]
 pub enum End {
     /// All of its lines were written, and none needs too many units.
     Whole,
@@ -14,7 +14,7 @@ pub enum End {
 }
 
 /// Why writing stops before the end: an allocation was refused, or the sink failed.
-#[derive(Clone, Copy, Debug, PartialEq, Eq)]
+#[derive(Clone, Copy, PartialEq, Eq)]
 pub enum Stop {
     NoMemory,
     WriteFault,

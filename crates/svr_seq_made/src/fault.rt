@@ -10,7 +10,7 @@ use svr_refusal::Refusal;
 use svr_seq_text::SeqTextFault;
 
 /// Why a text of `randsequence` is refused.
-#[derive(Clone, Copy, Debug, PartialEq, Eq)]
+#[derive(Clone, Copy, PartialEq, Eq)]
 pub enum SeqFault {
     /// A refusal, and the token where it stands: the first token with which the tokens begin no such text (`NoSequence`); a name that no production has, or a production whose name an earlier one has (`UnknownProduction`);
     /// a production all of whose rules have the weight 0 (`NoWeight`); what passes a limit (`SequenceTooLarge`).

@@ -3,7 +3,7 @@
 use std::alloc::AllocError;
 
 /// Why tokens write no text of `randsequence`.
-#[derive(Clone, Copy, Debug, PartialEq, Eq)]
+#[derive(Clone, Copy)]
 pub enum SeqTextFault {
     /// The first token with which the tokens so far begin no such text, by its number. The end of the text counts as a token.
     Unexpected { token: u32 },

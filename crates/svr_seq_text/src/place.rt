@@ -6,7 +6,7 @@ ghost use Rattle.svr_seq_text.specs.Machine as spec;
 use crate::word::Word;
 
 /// What comes next.
-#[derive(Clone, Copy, Debug, PartialEq, Eq)]
+#[derive(Clone, Copy, PartialEq, Eq)]
 pub(crate) enum Place {
     /// `randsequence`
     Opening,
@@ -54,7 +54,7 @@ pub(crate) enum Place {
 }
 
 /// What a word adds to the text.
-#[derive(Clone, Copy, Debug, PartialEq, Eq)]
+#[derive(Clone, Copy)]
 pub(crate) enum Deed {
     Skip,
     /// The name of the start
@@ -81,7 +81,7 @@ pub(crate) enum Deed {
 }
 
 /// Where a word leads, and what it adds.
-#[derive(Clone, Copy, Debug, PartialEq, Eq)]
+#[derive(Clone, Copy)]
 pub(crate) struct Move {
     pub(crate) place: Place,
     pub(crate) deed: Deed,

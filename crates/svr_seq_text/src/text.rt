@@ -3,7 +3,7 @@
 use sqlite_items::Items;
 
 /// A piece of a code block, in the order of the text: what is printed, and where a choice and its branches begin and end. All numbers are those of tokens.
-#[derive(Clone, Copy, Debug, PartialEq, Eq)]
+#[derive(Clone, Copy)]
 pub enum ActText {
     /// `NAME ;`
     Print(u32),
@@ -16,7 +16,7 @@ pub enum ActText {
 }
 
 /// A part of a rule.
-#[derive(Debug, Drop)]
+#[derive(Drop)]
 pub enum PartText {
     /// A production.
     Name(u32),
@@ -27,21 +27,21 @@ pub enum PartText {
 }
 
 /// The parts of a rule, and its weight where `:=` stands behind them (IEEE 1800-2017, 18.17.1).
-#[derive(Debug, Drop)]
+#[derive(Drop)]
 pub struct RuleText {
     pub parts: Items<PartText>,
     pub weight: Option<u32>,
 }
 
 /// A production: its name, and its rules with `|` between them.
-#[derive(Debug, Drop)]
+#[derive(Drop)]
 pub struct ProdText {
     pub name: u32,
     pub rules: Items<RuleText>,
 }
 
 /// A text of `randsequence`: the name of the production that it starts with, if it has one, and its productions.
-#[derive(Debug, Drop)]
+#[derive(Drop)]
 pub struct SeqText {
     pub start: Option<u32>,
     pub prods: Items<ProdText>,

@@ -8,7 +8,7 @@ ghost use Rattle.svr_seq_text.specs.declared.word.Word.{Word as WordType};
 use svr_token::{Lexeme, Mark, Token, lexeme_from};
 
 /// What a token of a text of `randsequence` says, with the number of the token where a text keeps it.
-#[derive(Clone, Copy, Debug, PartialEq, Eq)]
+#[derive(Clone, Copy, PartialEq, Eq)]
 pub(crate) enum Word {
     /// `randsequence`, as the first token. Anywhere else it is a name.
     RandSequence,

@@ -29,7 +29,7 @@ pub fn choose(
     let mut chosen = Vec::with_capacity(alloc, x.len())?;
     for i in 0..x.len() {
         let bit = b.define::<3>(table!(choice), [test, x[i], y[i]])?;
-        chosen.push(bit)?;
+        chosen.push_reserved(bit);
     }
     Ok(chosen)
 }

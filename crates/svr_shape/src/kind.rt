@@ -1,7 +1,7 @@
 //! The kinds of shifts.
 
 /// Which way a shift goes, and what it fills with (11.4.10).
-#[derive(Clone, Copy, Debug, PartialEq, Eq)]
+#[derive(Clone, Copy, PartialEq, Eq)]
 pub enum ShiftKind {
     /// Up, filled with zeros: `<<` and `<<<`.
     Left,

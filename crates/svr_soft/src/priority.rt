@@ -13,7 +13,7 @@ use svr_chain::{Lit, Refutation};
 use svr_query::{Answer, Solver};
 
 /// What the pass came to. Ranks are the places of the soft literals, counted from 1.
-#[derive(Debug, Drop)]
+#[derive(Drop)]
 pub enum PassEnd {
     /// The kept ranks, the others with a refutation each, and values that meet the clauses, the base and the kept literals.
     Done {

@@ -8,7 +8,7 @@ use svr_token::NameKind;
 use svr_tree::{Expr, ModeKind};
 
 /// A method that is built in (IEEE 1800-2017, 18.6, 18.8 and 18.9).
-#[derive(Clone, Copy, Debug, PartialEq, Eq)]
+#[derive(Clone, Copy)]
 pub enum Method {
     Randomize,
     Mode(ModeKind),

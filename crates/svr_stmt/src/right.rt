@@ -7,15 +7,15 @@ ghost use Rattle.svr_tree.specs.ExprTree.{expr_tree};
 ghost use Rattle.svr_tree.specs.StmtTree.{right_tree};
 ghost use Rattle.svr_stmt.specs.StmtRules as spec;
 
-use crate::held::ended;
 use crate::method::{Method, path_method};
 use crate::reader::Reader;
 use sqlite_items::Items;
 use svr_expr::{
     connective_of, expr, exprs, rest_of_operand, rest_of_path, starts_path, with_parens,
 };
+use svr_item::ended;
 use svr_reader::{Cursor, Fixed, ReadFault};
-use svr_token::{Lexeme, Mark, NameKind, Word};
+use svr_token::{Lexeme, Mark, Word};
 use svr_tree::{Expr, RandomizeArgs, RightSide, level};
 
 impl Reader {
@@ -29,14 +29,14 @@ impl Reader {
         match cursor.peek() {
             Some(Lexeme::Mark(Mark::OpenParen)) => {
                 cursor.take()?;
-                cursor.expect(Fixed::Mark(Mark::CloseParen))?;
-                Ok((RightSide::New { parens: true }, 0))
+                let found = (RightSide::New { parens: true }, 0);
+                ended(cursor, found, Fixed::Mark(Mark::CloseParen))
             }
             Some(Lexeme::Mark(Mark::OpenBracket)) => {
                 cursor.take()?;
                 let (count, height) = expr(self.alloc, cursor, self.room, level::IMPLICATION)?;
-                let count = ended(cursor, count, Fixed::Mark(Mark::CloseBracket))?;
-                Ok((RightSide::NewArray(count), height))
+                let found = (RightSide::NewArray(count), height);
+                ended(cursor, found, Fixed::Mark(Mark::CloseBracket))
             }
             _ => Ok((RightSide::New { parens: false }, 0)),
         }
@@ -54,8 +54,8 @@ impl Reader {
             return Ok((RightSide::Pattern { at, values }, 0));
         }
         let (values, height) = exprs(self.alloc, cursor, self.room)?;
-        let values = ended(cursor, values, Fixed::Mark(Mark::CloseBrace))?;
-        Ok((RightSide::Pattern { at, values }, height))
+        let found = (RightSide::Pattern { at, values }, height);
+        ended(cursor, found, Fixed::Mark(Mark::CloseBrace))
     }
 
     /// What stands behind `path.randomize()`.
@@ -103,25 +103,8 @@ impl Reader {
         }
     }
 
-    /// What stands behind a path, where its last name, of this kind, is read as no method of a statement.
-    #[tactic(auto, unfolding(crate::specs::StmtRules::behind_path, crate::specs::StmtRules::value_right))]
-    fn behind_path(
-        &self,
-        cursor: &mut Cursor<'_>,
-        at: u32,
-        path: Expr,
-        kind: NameKind,
-    ) -> Result<(RightSide, usize), ReadFault>
-        requires path { 1 ≤ self.now.room }
-        ensures gives { Gives (height_view right_tree) (spec.within cap self.now.room (spec.behind_path at (expr_tree path, kind)) cursor.old) result cursor.new }
-        ensures low { IfOk result (λ x. x.1 ≤ self.now.room) }
-    {
-        let (value, height) = rest_of_path(self.alloc, cursor, self.room, at, path, kind)?;
-        Ok((RightSide::Value(value), height))
-    }
-
     /// A right side that begins with a path.
-    #[tactic(auto, unfolding(crate::specs::StmtRules::path_right))]
+    #[tactic(auto, unfolding(crate::specs::StmtRules::path_right, crate::specs::StmtRules::behind_path, crate::specs::StmtRules::value_right))]
     fn path_right(&self, cursor: &mut Cursor<'_>) -> Result<(RightSide, usize), ReadFault>
         ensures gives { Gives (height_view right_tree) (spec.within cap self.now.room spec.path_right cursor.old) result cursor.new }
         ensures low { IfOk result (λ x. x.1 ≤ self.now.room) }
@@ -129,14 +112,13 @@ impl Reader {
         let at = cursor.at();
         let (path, kind) = self.path_here(cursor)?;
         match path_method(&path, kind) {
-            Some(Method::Randomize) => {
-                if cursor.eat(Fixed::Mark(Mark::OpenParen)) {
-                    self.behind_open(cursor, at, path)
-                } else {
-                    self.behind_path(cursor, at, path, kind)
-                }
+            Some(Method::Randomize) if cursor.eat(Fixed::Mark(Mark::OpenParen)) => {
+                self.behind_open(cursor, at, path)
             }
-            _ => self.behind_path(cursor, at, path, kind),
+            _ => {
+                let (value, height) = rest_of_path(self.alloc, cursor, self.room, at, path, kind)?;
+                Ok((RightSide::Value(value), height))
+            }
         }
     }
 

@@ -9,18 +9,20 @@ ghost use Rattle.svr_reader.specs.Lists.{WithHeight, until as until_program};
 ghost use Rattle.svr_reader.specs.Program.{call};
 ghost use Rattle.svr_reader.specs.declared.fixed.Fixed.TheVariants as f;
 ghost use Rattle.svr_token.specs.declared.Word.TheVariants as w;
+ghost use Rattle.svr_tree.specs.ExprTree.{expr_tree};
 ghost use Rattle.svr_tree.specs.StmtTree.{StmtTree, stmt_tree};
 ghost use Rattle.svr_stmt.specs.StmtRules as spec;
-ghost use Rattle.svr_stmt.specs.Parts.{Nests};
+ghost use Rattle.svr_stmt.specs.Parts.{Nests, closing, repeating};
 
-use crate::held::{ended, let_go};
+use crate::held::let_go;
 use crate::reader::Reader;
 use sqlite_items::Items;
 use std::alloc::Global;
 use svr_expr::{expr, starts_path};
+use svr_item::ended;
 use svr_reader::{Cursor, Fixed, ReadFault, until};
 use svr_token::{Lexeme, Mark, NameKind, Word};
-use svr_tree::{CallForm, Stmt, level};
+use svr_tree::{CallForm, Expr, Stmt, level};
 
 impl Reader {
     /// A call in parentheses, and `;`.
@@ -37,10 +39,23 @@ impl Reader {
     {
         cursor.expect(Fixed::Mark(Mark::OpenParen))?;
         let (call, height) = self.whole_call(cursor)?;
-        let found = Stmt::call(at, form, call);
-        let found = ended(cursor, found, Fixed::Mark(Mark::CloseParen))?;
-        let found = ended(cursor, found, Fixed::Mark(Mark::Semicolon))?;
-        Ok((found, height + 1))
+        self.closed(cursor, Stmt::call(at, form, call), height)
+    }
+
+    /// `);` behind the last part of a statement, of parts as high as `height`.
+    pub(crate) fn closed(
+        &self,
+        cursor: &mut Cursor<'_>,
+        found: Stmt,
+        height: usize,
+    ) -> Result<(Stmt, usize), ReadFault>
+        requires room { self.now.room + 1 < 2 ^ 64 }
+        requires height { height ≤ self.now.room }
+        ensures gives { Gives (height_view stmt_tree) (spec.within cap self.now.room (closing (stmt_tree found) height) cursor.old) result cursor.new }
+        ensures low { IfOk result (λ x. x.1 ≤ self.now.room + 1) }
+    {
+        let found = ended(cursor, (found, height + 1), Fixed::Mark(Mark::CloseParen))?;
+        ended(cursor, found, Fixed::Mark(Mark::Semicolon))
     }
 
     /// `void'(call);`
@@ -139,6 +154,23 @@ impl<F: Fn(Global, &mut Cursor<'_>, usize) -> Result<(Stmt, usize), ReadFault>> 
             level::IMPLICATION,
         )?;
         let count = ended(cursor, count, Fixed::Mark(Mark::CloseParen))?;
+        self.repeat_on(cursor, at, count, height)
+    }
+
+    /// What is repeated, behind the count, which is as high as `height`.
+    fn repeat_on(
+        &self,
+        cursor: &mut Cursor<'_>,
+        at: u32,
+        count: Expr,
+        height: usize,
+    ) -> Result<(Stmt, usize), ReadFault>
+        requires nests { Nests self.now.parts.room (F.pre self.now.stmt) (F.post self.now.stmt) }
+        requires room { self.now.parts.room + 1 < 2 ^ 64 }
+        requires height { height ≤ self.now.parts.room }
+        ensures gives { Gives (height_view stmt_tree) (spec.within cap self.now.parts.room (repeating at (expr_tree count) height) cursor.old) result cursor.new }
+        ensures low { IfOk result (λ x. x.1 ≤ self.now.parts.room + 1) }
+    {
         match self.part(cursor) {
             Ok((body, body_height)) => {
                 let whole = Stmt::repeat(self.parts.alloc, at, count, body)?;

@@ -7,10 +7,11 @@ ghost use Rattle.svr_tree.specs.ExprTree.{expr_tree};
 ghost use Rattle.svr_tree.specs.StmtTree.{stmt_tree};
 ghost use Rattle.svr_stmt.specs.StmtRules as spec;
 
-use crate::held::{ended, let_go};
+use crate::held::let_go;
 use crate::method::{Method, path_method};
 use crate::reader::Reader;
 use svr_expr::{expr, member_on, owner};
+use svr_item::ended;
 use svr_reader::{Cursor, Fixed, ReadFault};
 use svr_token::{Mark, NameKind};
 use svr_tree::{CallForm, Expr, ModeCall, ModeKind, Stmt, level};
@@ -33,9 +34,9 @@ impl Reader {
         let target = ended(cursor, target, Fixed::Mark(Mark::Assign))?;
         match self.right_in(cursor) {
             Ok((value, value_height)) => {
-                let found = Stmt::assign(at, target, value);
-                let found = ended(cursor, found, Fixed::Mark(Mark::Semicolon))?;
-                Ok((found, height.max(value_height) + 1))
+                let height = height.max(value_height) + 1;
+                let found = (Stmt::assign(at, target, value), height);
+                ended(cursor, found, Fixed::Mark(Mark::Semicolon))
             }
             Err(fault) => Err(let_go(target, fault)),
         }
@@ -55,9 +56,8 @@ impl Reader {
         ensures low { IfOk result (λ x. x.1 ≤ self.now.room + 1) }
     {
         let (call, height) = self.randomize_on(cursor, path)?;
-        let found = Stmt::call(at, CallForm::Plain, call);
-        let found = ended(cursor, found, Fixed::Mark(Mark::Semicolon))?;
-        Ok((found, height + 1))
+        let found = (Stmt::call(at, CallForm::Plain, call), height + 1);
+        ended(cursor, found, Fixed::Mark(Mark::Semicolon))
     }
 
     /// The rest of a mode behind `(`.
@@ -78,9 +78,7 @@ impl Reader {
             Ok((on, height)) => {
                 let path = owner(path);
                 let found = Stmt::mode(at, ModeCall { path, kind, on });
-                let found = ended(cursor, found, Fixed::Mark(Mark::CloseParen))?;
-                let found = ended(cursor, found, Fixed::Mark(Mark::Semicolon))?;
-                Ok((found, height.max(1) + 1))
+                self.closed(cursor, found, height.max(1))
             }
             Err(fault) => Err(let_go(path, fault)),
         }
@@ -100,15 +98,12 @@ impl Reader {
         ensures gives { Gives (height_view stmt_tree) (spec.within cap self.now.room (spec.behind_target at (expr_tree path, kind)) cursor.old) result cursor.new }
         ensures low { IfOk result (λ x. x.1 ≤ self.now.room + 1) }
     {
-        let Some(method) = path_method(&path, kind) else {
-            return self.assign_on(cursor, at, path);
-        };
-        if !cursor.eat(Fixed::Mark(Mark::OpenParen)) {
-            return self.assign_on(cursor, at, path);
-        }
-        match method {
-            Method::Randomize => self.call_on(cursor, at, path),
-            Method::Mode(mode) => self.mode_on(cursor, at, path, mode),
+        match path_method(&path, kind) {
+            Some(method) if cursor.eat(Fixed::Mark(Mark::OpenParen)) => match method {
+                Method::Randomize => self.call_on(cursor, at, path),
+                Method::Mode(mode) => self.mode_on(cursor, at, path, mode),
+            },
+            _ => self.assign_on(cursor, at, path),
         }
     }
 

@@ -1,6 +1,7 @@
 -- A text is cut in one way only where bytes of a class end.
-use Rattle.std.proofs.Common.{◌≡◌, ◌≤◌, ℕ, suc, List, [], ◌∷◌, ◌++◌, length, Bool, true, false, ◌&&◌, refl, sym, ◌∙◌, subst, arith, ◌==◌}
+use Rattle.std.proofs.Common.{◌≡◌, ◌≤◌, ◌<◌, ◌-◌, ℕ, suc, List, [], ◌∷◌, ◌++◌, length, take, drop, get_or, ap, Bool, true, false, ◌&&◌, refl, sym, ◌∙◌, subst, arith, ◌==◌}
 use Rattle.std.proofs.lemmas.Bool.Decides.{nat_tests}
+use Rattle.std.proofs.lemmas.List.{take_rest}
 use Rattle.std.specs.List.{list_all}
 use Rattle.std.specs.Char.{is_digit}
 use Rattle.svr_token.specs.Bytes.{Stops, is_digit_or_underscore}
@@ -22,6 +23,15 @@ and_both false b e f = absurd (cc)
 pub nothing_left : (xs : List ℕ) → length xs ≡ 0 → xs ≡ []
 nothing_left [] e = refl
 nothing_left (x ∷ xs) e = absurd (omega arith)
+
+pub no_byte : (xs : List ℕ) → length xs < 1 → xs ≡ []
+no_byte [] none = refl
+no_byte (x ∷ xs) none = absurd (omega arith)
+
+-- the first byte, and what stands behind it
+pub first_byte : (xs : List ℕ) (b : ℕ) → 1 ≤ length xs → get_or xs 0 0 ≡ b → xs ≡ b ∷ take (length xs - 1) (drop 1 xs)
+first_byte [] b some is = absurd (omega arith)
+first_byte (y ∷ ys) b some is = ap (λ z. z ∷ ys) is ∙ ap (λ zs. b ∷ zs) (sym (take_rest (y ∷ ys) 1))
 
 pub empty_is : (xs : List ℕ) (b : Bool) → b ≡ (length xs == 0) → b ≡ true → xs ≡ []
 empty_is [] b e t = refl

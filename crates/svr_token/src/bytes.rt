@@ -7,7 +7,7 @@ ghost use Rattle.svr_token.specs.Bytes.{class_test, is_blank, is_name_start, Sto
 use crate::radix::Radix;
 
 /// The bytes that may follow one another.
-#[derive(Clone, Copy, Debug, PartialEq, Eq)]
+#[derive(Clone, Copy)]
 pub enum ByteClass {
     /// A letter, a digit, `_` or `$`.
     Name,

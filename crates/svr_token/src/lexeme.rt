@@ -1,7 +1,7 @@
 // What a token spells.
 
 /// A reserved word of the accepted language (IEEE 1800-2017, table B.1).
-#[derive(Clone, Copy, Debug, PartialEq, Eq)]
+#[derive(Clone, Copy, PartialEq, Eq)]
 pub enum Word {
     Assert,
     Before,
@@ -49,7 +49,7 @@ pub enum Word {
 }
 
 /// An operator or a mark of punctuation.
-#[derive(Clone, Copy, Debug, PartialEq, Eq)]
+#[derive(Clone, Copy, PartialEq, Eq)]
 pub enum Mark {
     /// `(`
     OpenParen,
@@ -150,7 +150,7 @@ pub enum Mark {
 }
 
 /// A plain name, or the name of a method that the grammar knows: an array reduction (IEEE 1800-2017, 7.12.3), or one of 18.6, 18.8 and 18.9. Each may stand wherever a plain name may.
-#[derive(Clone, Copy, Debug, PartialEq, Eq)]
+#[derive(Clone, Copy, PartialEq, Eq)]
 pub enum NameKind {
     Plain,
     /// `sum`
@@ -172,7 +172,7 @@ pub enum NameKind {
 }
 
 /// A system function (IEEE 1800-2017, 20.5).
-#[derive(Clone, Copy, Debug, PartialEq, Eq)]
+#[derive(Clone, Copy, PartialEq, Eq)]
 pub enum SystemName {
     /// `$signed`
     Signed,
@@ -181,7 +181,7 @@ pub enum SystemName {
 }
 
 /// What a token spells, as the grammar sees it.
-#[derive(Clone, Copy, Debug, PartialEq, Eq)]
+#[derive(Clone, Copy, PartialEq, Eq)]
 pub enum Lexeme {
     Word(Word),
     Name(NameKind),

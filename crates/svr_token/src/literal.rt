@@ -28,7 +28,7 @@ pub enum Literal<'a> {
 }
 
 /// Why a literal has no value.
-#[derive(Clone, Copy, Debug, PartialEq, Eq)]
+#[derive(Clone, Copy)]
 pub enum LiteralFault {
     /// Its size is 0.
     ZeroSize,
@@ -118,12 +118,16 @@ fn front_head(text: &[u8]) -> Option<Head<'_>>
     ensures none { IfNone result ((size : List ℕ) (signed : Bool) (radix : RadixType) (rest : List ℕ) → BeginsWithHead text.now size signed radix rest → ⊥) }
 {
     let (size, rest) = split_digits(text, Radix::Decimal);
-    let (quote, rest) = rest.split_first()?;
+    let [quote, rest @ ..] = rest else {
+        return None;
+    };
     if *quote != b'\'' {
         return None;
     }
     let (signed, rest) = split_sign(rest);
-    let (letter, rest) = rest.split_first()?;
+    let [letter, rest @ ..] = rest else {
+        return None;
+    };
     let radix = Radix::of(*letter)?;
     Some(Head {
         size,

@@ -4,7 +4,7 @@ ghost use Rattle.svr_token.specs.Bytes.{base_of};
 ghost use Rattle.svr_token.specs.Lexemes.{radix_of};
 
 /// The radix of a literal (IEEE 1800-2017, 5.7.1).
-#[derive(Clone, Copy, Debug, PartialEq, Eq)]
+#[derive(Clone, Copy)]
 pub enum Radix {
     Binary,
     Octal,

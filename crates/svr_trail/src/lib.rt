@@ -14,14 +14,14 @@ use std::marker::Model;
 use svr_chain::Lit;
 
 /// A literal that was set, with the number of the clause that set it, or `None` where it was decided.
-#[derive(Clone, Copy, Debug)]
+#[derive(Clone, Copy)]
 pub struct Entry {
     pub lit: Lit,
     pub reason: Option<u64>,
 }
 
 /// The literals set so far, in their order, with tables of their signs and places by variable.
-#[derive(Debug, Drop)]
+#[derive(Drop)]
 pub struct Trail {
     entries: Vec<Entry>,
     signs: Vec<Option<bool>>,

@@ -4,13 +4,13 @@ ghost use Rattle.std.specs.Prelude.{◌≡◌, IfOk};
 ghost use Rattle.svr_tree.specs.ExprTree as tree;
 ghost use Rattle.svr_tree.specs.ExprTree.{expr_tree, range_tree, bound_tree, expr_trees, range_trees};
 
-use crate::memory::NoMemory;
+use crate::memory::{NoMemory, boxed_pair, boxed_three};
 use sqlite_items::{Boxed, Items};
 use std::alloc::Global;
 use svr_operator::{BinOp, Fold, UnOp};
 
 /// Where a path looks for its first name: by the common rules, or behind `local::` or `this.` (IEEE 1800-2017, 18.7.1 and 8.11).
-#[derive(Clone, Copy, Debug, PartialEq, Eq)]
+#[derive(Clone, Copy, PartialEq, Eq)]
 pub enum Scope {
     Plain,
     Local,
@@ -18,7 +18,7 @@ pub enum Scope {
 }
 
 /// What stands between the name of an array reduction and `with`: the name of an element in the body (IEEE 1800-2017, A.8.2 and 7.12, iterator_argument).
-#[derive(Clone, Copy, Debug, PartialEq, Eq)]
+#[derive(Clone, Copy, PartialEq, Eq)]
 pub enum IteratorArgument {
     /// No parentheses, so an element is `item`.
     Absent,
@@ -173,10 +173,11 @@ impl Expr {
     ) -> Result<Expr, NoMemory>
         ensures { IfOk result (λ e. expr_tree e ≡ tree.bit_select at (expr_tree base) (expr_tree index) call) }
     {
+        let (base, first) = boxed_pair(alloc, base, index)?;
         Ok(Expr::Select {
             at,
-            base: Boxed::new(alloc, base)?,
-            first: Boxed::new(alloc, index)?,
+            base,
+            first,
             last: None,
             call,
         })
@@ -193,11 +194,12 @@ impl Expr {
     ) -> Result<Expr, NoMemory>
         ensures { IfOk result (λ e. expr_tree e ≡ tree.part_select at (expr_tree base) (expr_tree first) (expr_tree last) call) }
     {
+        let (base, first, last) = boxed_three(alloc, base, first, last)?;
         Ok(Expr::Select {
             at,
-            base: Boxed::new(alloc, base)?,
-            first: Boxed::new(alloc, first)?,
-            last: Some(Boxed::new(alloc, last)?),
+            base,
+            first,
+            last: Some(last),
             call,
         })
     }
@@ -223,11 +225,12 @@ impl Expr {
     ) -> Result<Expr, NoMemory>
         ensures { IfOk result (λ e. expr_tree e ≡ tree.binary at op (expr_tree left) (expr_tree right)) }
     {
+        let (left, right) = boxed_pair(alloc, left, right)?;
         Ok(Expr::Binary {
             at,
             op,
-            left: Boxed::new(alloc, left)?,
-            right: Boxed::new(alloc, right)?,
+            left,
+            right,
         })
     }
 
@@ -235,12 +238,8 @@ impl Expr {
     pub fn choice(alloc: Global, at: u32, test: Expr, yes: Expr, no: Expr) -> Result<Expr, NoMemory>
         ensures { IfOk result (λ e. expr_tree e ≡ tree.choice at (expr_tree test) (expr_tree yes) (expr_tree no)) }
     {
-        Ok(Expr::Choice {
-            at,
-            test: Boxed::new(alloc, test)?,
-            yes: Boxed::new(alloc, yes)?,
-            no: Boxed::new(alloc, no)?,
-        })
+        let (test, yes, no) = boxed_three(alloc, test, yes, no)?;
+        Ok(Expr::Choice { at, test, yes, no })
     }
 
     /// Set membership (11.4.13).
@@ -304,12 +303,13 @@ impl Expr {
     ) -> Result<Expr, NoMemory>
         ensures { IfOk result (λ e. expr_tree e ≡ tree.reduce at (expr_tree array) op item (expr_tree body)) }
     {
+        let (array, body) = boxed_pair(alloc, array, body)?;
         Ok(Expr::Reduce {
             at,
-            array: Boxed::new(alloc, array)?,
+            array,
             op,
             item,
-            body: Boxed::new(alloc, body)?,
+            body,
         })
     }
 }

@@ -5,13 +5,13 @@ use crate::stmt::Stmt;
 use sqlite_items::Items;
 
 /// One of the declarations before the unit: the next type, or the next class.
-#[derive(Clone, Copy, Debug, PartialEq, Eq)]
+#[derive(Clone, Copy, PartialEq, Eq)]
 pub enum Top {
     OfType,
     OfClass,
 }
 
-#[derive(Clone, Copy, Debug, PartialEq, Eq)]
+#[derive(Clone, Copy, PartialEq, Eq)]
 pub enum UnitKind {
     Module,
     Program,

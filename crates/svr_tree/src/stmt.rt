@@ -12,7 +12,7 @@ use sqlite_items::{Boxed, Items};
 use std::alloc::Global;
 
 /// What the parentheses of a call hold (IEEE 1800-2017, 18.6 and 18.11).
-#[derive(Debug, Drop)]
+#[derive(Drop)]
 pub enum RandomizeArgs {
     Empty,
     Null,
@@ -27,7 +27,7 @@ pub struct RandomizeCall {
     pub with: Option<Items<Item>>,
 }
 
-#[derive(Clone, Copy, Debug, PartialEq, Eq)]
+#[derive(Clone, Copy, PartialEq, Eq)]
 pub enum ModeKind {
     /// `rand_mode` (IEEE 1800-2017, 18.8)
     Rand,
@@ -57,7 +57,7 @@ pub enum RightSide {
 }
 
 /// How a call of `randomize` stands as a statement.
-#[derive(Clone, Copy, Debug, PartialEq, Eq)]
+#[derive(Clone, Copy, PartialEq, Eq)]
 pub enum CallForm {
     /// `call;`
     Plain,

@@ -10,7 +10,7 @@ use sqlite_items::Items;
 use svr_operator::Rand;
 
 /// An integral type (IEEE 1800-2017, 6.11): its width in bits, from 1 to 64, and its sign. `members` is the number of the enum whose members its values are.
-#[derive(Clone, Copy, Debug, PartialEq, Eq)]
+#[derive(Clone, Copy, PartialEq, Eq)]
 pub struct NumType {
     pub width: u8,
     pub signed: bool,
@@ -18,7 +18,7 @@ pub struct NumType {
 }
 
 /// Whether a property is an array (IEEE 1800-2017, clause 7). A dynamic one is a dynamic array or a queue.
-#[derive(Clone, Copy, Debug, PartialEq, Eq)]
+#[derive(Clone, Copy, PartialEq, Eq)]
 pub enum ArrayKind {
     Scalar,
     /// A fixed array of this many elements, over all its dimensions.
@@ -27,7 +27,7 @@ pub enum ArrayKind {
 }
 
 /// A property of a class. `kind` is its type, or that of its elements; `first` is its initial value, as stored bits; `low` is the lowest bit number of its declared range, 0 where it has none. `can` is true where it can be random: it is declared so, or an object's mode makes it so. `inner` is the second dimension of a fixed array that has two, else 1.
-#[derive(Debug, Drop)]
+#[derive(Drop)]
 pub struct Prop {
     pub name: Text,
     pub kind: NumType,
@@ -54,14 +54,14 @@ pub struct FlatClass {
 }
 
 /// A member of an enum and its value, as stored bits (IEEE 1800-2017, 6.19).
-#[derive(Debug, Drop)]
+#[derive(Drop)]
 pub struct EnumMember {
     pub name: Text,
     pub value: u64,
 }
 
 /// An enum (IEEE 1800-2017, 6.19), with its members in declaration order.
-#[derive(Debug, Drop)]
+#[derive(Drop)]
 pub struct EnumType {
     pub base: NumType,
     pub members: Items<EnumMember>,

@@ -4,7 +4,7 @@ ghost use Rattle.std.specs.Prelude.{◌≡◌, IfOk};
 ghost use Rattle.svr_typed.specs.ExprTerm as term;
 ghost use Rattle.svr_typed.specs.ExprTerm.{expr_term, node_term, range_term, bound_term, expr_terms, range_terms};
 
-use crate::memory::NoMemory;
+use crate::memory::{NoMemory, boxed_pair, boxed_three};
 use sqlite_items::{Boxed, Items};
 use std::alloc::Global;
 use svr_operator::{BinOp, Fold, UnOp};
@@ -147,12 +147,8 @@ impl TNode {
     ) -> Result<TNode, NoMemory>
         ensures { IfOk result (λ n. node_term n ≡ term.cell prop inner (expr_term first) (expr_term second)) }
     {
-        Ok(TNode::Cell(
-            prop,
-            inner,
-            Boxed::new(alloc, first)?,
-            Boxed::new(alloc, second)?,
-        ))
+        let (first, second) = boxed_pair(alloc, first, second)?;
+        Ok(TNode::Cell(prop, inner, first, second))
     }
 
     /// The first dimension of an array whose second one is `inner`.
@@ -194,9 +190,10 @@ impl TNode {
     pub fn bit_select(alloc: Global, base: TExpr, index: TExpr, low: i64) -> Result<TNode, NoMemory>
         ensures { IfOk result (λ n. node_term n ≡ term.bit_select (expr_term base) (expr_term index) low) }
     {
+        let (base, first) = boxed_pair(alloc, base, index)?;
         Ok(TNode::Select {
-            base: Boxed::new(alloc, base)?,
-            first: Boxed::new(alloc, index)?,
+            base,
+            first,
             last: None,
             low,
         })
@@ -212,10 +209,11 @@ impl TNode {
     ) -> Result<TNode, NoMemory>
         ensures { IfOk result (λ n. node_term n ≡ term.part_select (expr_term base) (expr_term first) (expr_term last) low) }
     {
+        let (base, first, last) = boxed_three(alloc, base, first, last)?;
         Ok(TNode::Select {
-            base: Boxed::new(alloc, base)?,
-            first: Boxed::new(alloc, first)?,
-            last: Some(Boxed::new(alloc, last)?),
+            base,
+            first,
+            last: Some(last),
             low,
         })
     }
@@ -234,22 +232,16 @@ impl TNode {
     pub fn binary(alloc: Global, op: BinOp, left: TExpr, right: TExpr) -> Result<TNode, NoMemory>
         ensures { IfOk result (λ n. node_term n ≡ term.binary op (expr_term left) (expr_term right)) }
     {
-        Ok(TNode::Binary {
-            op,
-            left: Boxed::new(alloc, left)?,
-            right: Boxed::new(alloc, right)?,
-        })
+        let (left, right) = boxed_pair(alloc, left, right)?;
+        Ok(TNode::Binary { op, left, right })
     }
 
     /// The conditional operator: a test, and the values where it is true and where it is not.
     pub fn choice(alloc: Global, test: TExpr, yes: TExpr, no: TExpr) -> Result<TNode, NoMemory>
         ensures { IfOk result (λ n. node_term n ≡ term.choice (expr_term test) (expr_term yes) (expr_term no)) }
     {
-        Ok(TNode::Choice {
-            test: Boxed::new(alloc, test)?,
-            yes: Boxed::new(alloc, yes)?,
-            no: Boxed::new(alloc, no)?,
-        })
+        let (test, yes, no) = boxed_three(alloc, test, yes, no)?;
+        Ok(TNode::Choice { test, yes, no })
     }
 
     /// Whether a value is in a set.

@@ -16,7 +16,7 @@ use sqlite_items::{Boxed, Items};
 use std::alloc::Global;
 
 /// What the parentheses of a `randomize` call hold (IEEE 1800-2017, 18.6 and 18.11): nothing, `null`, or the numbers of properties.
-#[derive(Debug, Drop)]
+#[derive(Drop)]
 pub enum CallList {
     All,
     Null,
@@ -33,14 +33,14 @@ pub struct CallStmt {
 }
 
 /// The type of a script variable: an integral type, or a class by its number.
-#[derive(Clone, Copy, Debug, PartialEq, Eq)]
+#[derive(Clone, Copy, PartialEq, Eq)]
 pub enum VarKind {
     Number(NumType),
     Object(u32),
 }
 
 /// A script variable.
-#[derive(Debug, Drop)]
+#[derive(Drop)]
 pub struct TVar {
     pub name: Text,
     pub kind: VarKind,

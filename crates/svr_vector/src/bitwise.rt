@@ -13,7 +13,7 @@ use svr_chain::Lit;
 use svr_gate::{Builder, table};
 
 /// An operator of two bits.
-#[derive(Clone, Copy, Debug, PartialEq, Eq)]
+#[derive(Clone, Copy, PartialEq, Eq)]
 pub enum Gate {
     Both,
     Either,
@@ -51,7 +51,7 @@ pub(crate) fn bitwise(
     let mut v = Vec::with_capacity(alloc, x.len())?;
     for i in 0..x.len() {
         let bit = of_bits(b, op, x[i], y[i])?;
-        v.push(bit)?;
+        v.push_reserved(bit);
     }
     Ok(v)
 }

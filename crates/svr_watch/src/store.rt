@@ -32,14 +32,14 @@ fn grow(numbers: &mut Vec<u64>, place: usize) -> Result<(), AllocError>
 }
 
 /// Where a clause is: in the arena under a name, or apart since it is a tautology or has fewer than two distinct literals.
-#[derive(Debug, Drop)]
+#[derive(Drop)]
 pub enum Held {
     Watched(u64),
     Apart(Clause),
 }
 
 /// The clauses of a search by number. Those with two or more distinct literals that are no tautologies are in the arena, on the lists of their first two literals.
-#[derive(Debug, Drop)]
+#[derive(Drop)]
 pub struct Store {
     arena: Arena,
     held: Vec<Held>,

@@ -20,7 +20,7 @@ use svr_chain::Lit;
 use svr_trail::{Entry, Trail};
 
 /// What a visit to a clause of a false literal leaves: the clause stays on the list, it is moved to another, or it is false.
-#[derive(Clone, Copy, Debug)]
+#[derive(Clone, Copy)]
 pub enum Outcome {
     Kept,
     Moved,

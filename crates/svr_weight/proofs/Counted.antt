@@ -2,7 +2,7 @@
 use Rattle.std.proofs.Common.{◌≡◌, ◌≤◌, ◌<◌, ◌==◌, ◌&&◌, ℕ, zero, suc, ◌+◌, ◌*◌, max, Bool, true, false, refl, sym, ◌∙◌, ap, subst, List, [], ◌∷◌, Option, None, Some, length, drop, get_or, drop-cons, add-one, arith}
 use Rattle.std.specs.Prelude.{if◌then◌else◌}
 use Rattle.std.proofs.Math.Nat.{mul_comm}
-use Rattle.std.proofs.lemmas.Bool.{and_parts, eqb-true}
+use Rattle.std.proofs.lemmas.Bool.{and_parts, eqb-true, eq-eqb}
 use Rattle.std.proofs.lemmas.List.{drop_all}
 use Rattle.svr_typed.specs.declared.expr.TExpr.{TExpr}
 use Rattle.svr_typed.specs.ExprTerm.{ExprTerm, ExprTerms, no_exprs, more_exprs, expr_term, expr_terms}
@@ -20,7 +20,7 @@ use Rattle.svr_weight.specs.declared.tally.Tallies.{Tallies}
 use Rattle.svr_weight.specs.Costs.{own_cost, cost, pair_cost}
 use Rattle.svr_weight.specs.Weighing.{nothing, joined, mentioned_by, member_count, pair_number, is_counted, guarded_weight, leaf_weight, pair_weight, against_weight, group_weight, unique_weight}
 use Rattle.svr_weight.specs.Tallied.{all_have, none, tallied, counts, tallied_beside, nobody, with_member, beside, half_weight, own_weight, beside_weight, counted_weight}
-use Rattle.svr_weight.proofs.Caps.{mul_same}
+use Rattle.svr_weight.proofs.Caps.{mul_same, own_width}
 
 -- ---- sums and products up to the cap
 
@@ -70,13 +70,24 @@ even_from w es zero h = h
 even_from w [] (suc k) h = refl
 even_from w (e ∷ es) (suc k) h = even_from w es k (is_size (size_of (expr_term e)) w (all_have w (expr_terms es)) h).1
 
-typed_from : (es : List TExpr) (k : ℕ) → AreTyped (expr_terms es) → AreTyped (expr_terms (drop k es))
+pub typed_from : (es : List TExpr) (k : ℕ) → AreTyped (expr_terms es) → AreTyped (expr_terms (drop k es))
 typed_from es zero h = h
 typed_from [] (suc k) h = tt
 typed_from (e ∷ es) (suc k) h = typed_from es k h.1
 
 pub one_typed : (es : List TExpr) (k : ℕ) (x : TExpr) → k < length es → x ≡ get_or es k x → AreTyped (expr_terms es) → IsTyped (expr_term x)
 one_typed es k x lt is h = (subst (λ (xs : List TExpr). AreTyped (expr_terms xs)) (cut es k (k + 1) x lt refl is) (typed_from es k h)).0
+
+-- one member more of this size
+pub have_more : (w : ℕ) (es : List TExpr) (i : ℕ) (e : TExpr) → i < length es → e ≡ get_or es i e → e.width ≡ w → AreTyped (expr_terms es)
+    → all_have w (expr_terms (drop i es)) ≡ all_have w (expr_terms es) → all_have w (expr_terms (drop (i + 1) es)) ≡ all_have w (expr_terms es)
+have_more w es i e less at wide h so_far =
+    by (size_of (expr_term e)) (all_have w (expr_terms (drop (i + 1) es))) (own_width e (one_typed es i e less at h) ∙ wide)
+    ∙ ap (λ (xs : List TExpr). all_have w (expr_terms xs)) (sym (cut es i (i + 1) e less refl at))
+    ∙ so_far
+  where
+    by : (n : ℕ) (b : Bool) → n ≡ w → b ≡ ((n == w) && b)
+    by n b same = rw (eq-eqb n w same) refl
 
 module _ (f : FrameTerm) (part : Part) (ns : List ℕ) (c : Around) where
   -- ---- the members that count beside one that mentions so: how many they are, and what they weigh

@@ -1,5 +1,5 @@
 -- The items of the unknowns themselves weigh what the properties weigh one by one.
-use Rattle.std.proofs.Common.{◌≡◌, ℕ, zero, suc, ◌+◌, ◌*◌, Bool, true, false, not, ◌&&◌, ◌||◌, refl, ◌∙◌, ap, List, [], ◌∷◌, ◌++◌, map, length, Option, None, Some, arith}
+use Rattle.std.proofs.Common.{◌≡◌, ℕ, zero, suc, ◌+◌, ◌*◌, Bool, true, false, not, ◌&&◌, ◌||◌, refl, sym, ◌∙◌, ap, add-one, List, [], ◌∷◌, ◌++◌, map, length, Option, None, Some, arith}
 use Rattle.std.specs.Prelude.{filter, if◌then◌else◌, slice_index}
 use Rattle.std.specs.List.{flat_map, range_with_len}
 use Rattle.std.proofs.lemmas.Grind.{flat_map-append}
@@ -230,6 +230,16 @@ module _ (f : FrameTerm) (part : Part) (ns : List ℕ) where
       let at : 0 + n ≡ n = omega arith in
       let next = ap (weight_in part) at in
       omega (arith, rest, last, next)
+
+  -- one more property
+  pub property_added : (p sum count domain bounds domains own next : ℕ) → next ≡ capped (sum + own) → own ≡ capped (domains + bounds) → domains ≡ capped (count * domain)
+      → count ≡ number_count f ns part p → domain ≡ domain_weight f p → bounds ≡ bounds_weight f part p → sum ≡ capped (properties_weight f part ns p) → next ≡ capped (properties_weight f part ns (p + 1))
+  property_added p sum count domain bounds domains own next h i j c d b before =
+      step (properties_weight f part ns p) (number_count f ns part p * domain_weight f p) (bounds_weight f part p) before (j ∙ (λ k. capped (c k * d k))) b
+      ∙ ap (λ n. capped (properties_weight f part ns n)) (sym (add-one p))
+    where
+      step : (q x y : ℕ) → sum ≡ capped q → domains ≡ capped x → bounds ≡ y → next ≡ capped (q + (x + y))
+      step q x y e g k = omega (arith, h, i, e, g, k)
 
   -- ---- the phase
 

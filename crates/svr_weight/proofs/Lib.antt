@@ -1,4 +1,5 @@
 pub mod Caps
+pub mod Operands
 pub mod Counted
 pub mod Weights
 pub mod Loops

@@ -13,21 +13,21 @@ use svr_frame::{Frame, Part, Sought, finds, finds_in_members, finds_size};
 use svr_typed::{TDistItem, TExpr};
 
 /// What is mentioned that decides whether an item counts in a phase: something that it has to mention there, and something that it may not.
-#[derive(Clone, Copy, Debug, PartialEq, Eq)]
+#[derive(Clone, Copy, PartialEq, Eq)]
 pub(crate) struct Mentions {
     pub(crate) wanted: bool,
     pub(crate) barred: bool,
 }
 
 /// The tests around an item, joined by `&&`: the width of the result in bits, and what it weighs.
-#[derive(Clone, Copy, Debug, PartialEq, Eq)]
+#[derive(Clone, Copy)]
 pub(crate) struct Tests {
     pub(crate) width: u8,
     pub(crate) weight: u128,
 }
 
 /// What stands around an item.
-#[derive(Clone, Copy, Debug, PartialEq, Eq)]
+#[derive(Clone, Copy)]
 pub(crate) struct Around {
     pub(crate) tests: Option<Tests>,
     pub(crate) mentions: Mentions,

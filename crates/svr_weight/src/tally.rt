@@ -15,7 +15,7 @@ use svr_frame::{Frame, Part, size_at};
 use svr_typed::TExpr;
 
 /// A member: what it mentions, how many it stands for, and what it weighs alone.
-#[derive(Clone, Copy, Debug, PartialEq, Eq)]
+#[derive(Clone, Copy, PartialEq, Eq)]
 pub(crate) struct Member {
     pub(crate) mentions: Mentions,
     pub(crate) count: u32,
@@ -23,14 +23,14 @@ pub(crate) struct Member {
 }
 
 /// Members together: how many they are, and what they weigh.
-#[derive(Clone, Copy, Debug, PartialEq, Eq)]
+#[derive(Clone, Copy)]
 pub(crate) struct Tally {
     pub(crate) count: u128,
     pub(crate) weight: u128,
 }
 
 /// For each way in which a member can mention what decides whether a pair counts: the members that count beside it.
-#[derive(Clone, Copy, Debug, PartialEq, Eq)]
+#[derive(Clone, Copy)]
 pub(crate) struct Tallies {
     pub(crate) neither: Tally,
     pub(crate) wanted: Tally,

@@ -1,6 +1,6 @@
 -- What the bodies make is what the definitions say.
-use Rattle.std.proofs.Common.{◌≡◌, ◌<◌, ℕ, zero, suc, ◌+◌, Bool, true, List, [], ◌∷◌, ◌++◌, Option, Some, None, length, map, take, drop, refl, ap, ◌∙◌, slice_set, slice_index_or}
-use Rattle.std.proofs.lemmas.List.{set-set, set-get_or}
+use Rattle.std.proofs.Common.{◌≡◌, ◌<◌, ℕ, zero, suc, ◌+◌, Bool, true, List, [], ◌∷◌, ◌++◌, Option, Some, None, length, map, take, drop, refl, sym, ap, ◌∙◌, slice_set, slice_index_or}
+use Rattle.std.proofs.lemmas.List.{set-set, set-get_or, map_more}
 use Rattle.std.proofs.lemmas.List.Edits.{map_over_more}
 use Rattle.svr_typed.specs.declared.class.Prop.{Prop}
 use Rattle.svr_typed.specs.declared.class.TBlock.{TBlock}
@@ -19,6 +19,13 @@ read_again (y ∷ ys) (suc i) d = read_again ys i d
 pub with_mode_more : (on : Bool) (xs ys : List Bool) (i : ℕ) → i < length xs → ys ≡ map (λ m. on) (take i xs) ++ drop i xs
     → slice_set ys i on ≡ map (λ m. on) (take (i + 1) xs) ++ drop (i + 1) xs
 with_mode_more on xs ys i less so_far = map_over_more (λ m. on) xs ys i (slice_index_or ys i on) less so_far (read_again ys i on)
+
+-- ---- a step of a loop that makes one value of each element
+
+pub one_more : {X Y : Type 0} (f : X → Y) (xs : List X) (made next : List Y) (i : ℕ) (x : X) (y : Y)
+    → i < length xs → x ≡ slice_index_or xs i x → next ≡ made ++ y ∷ [] → made ≡ map f (take i xs) → y ≡ f x → next ≡ map f (take (i + 1) xs)
+one_more f xs made next i x y less at grown so_far is =
+    grown ∙ (λ k. so_far k ++ is k ∷ []) ∙ ap (λ z. map f (take i xs) ++ f z ∷ []) at ∙ sym (map_more f xs i x less)
 
 -- ---- a new object
 

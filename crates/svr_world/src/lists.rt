@@ -130,12 +130,7 @@ pub fn initial_values(alloc: Global, props: &[Prop]) -> Result<Vec<Items<u64>>, 
 pub fn all_on<T>(alloc: Global, parts: &[T]) -> Result<Vec<bool>, NoMemory>
     ensures { IfOk result (λ modes. modes.items ≡ map (λ x. true) parts.now) }
 {
-    let mut modes = Vec::with_capacity(alloc, parts.len())?;
-    for part in parts {
-        // One for each, whatever it is.
-        let _ = part;
-        push(&mut modes, true)?;
-    }
+    let modes = vec![in alloc; true; parts.len()]?;
     Ok(modes)
 }
 

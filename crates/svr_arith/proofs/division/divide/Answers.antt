@@ -1,10 +1,14 @@
 use Rattle.std.proofs.Common.{◌≡◌, ◌∙◌, ◌+◌, ◌-◌, ◌∷◌, ◌&&◌, ap, subst, sym, ℕ, List, arith, length, take, drop, get_or, cond, leb, eqb, false}
+use Rattle.std.proofs.lemmas.List.{length-take-le}
+use Rattle.std.proofs.lemmas.List.Elements.{All-cons, All-take}
 use Rattle.svr_chain.specs.declared.clause.Lit.{Lit}
+use Rattle.svr_chain.specs.Clauses.{IsWithin, AreWithin}
 use Rattle.svr_chain.specs.Valuations.{lit_value}
 use Rattle.svr_gate.specs.Numbers.{number}
 use Rattle.svr_gate.specs.Circuit.{Tells, GivesNumber}
-use Rattle.svr_gate.proofs.Circuits.{later, Tells-later, Tells-same, Tells-flipped}
+use Rattle.svr_gate.proofs.Circuits.{later, AreWithin-later, Tells-later, Tells-same, Tells-flipped}
 use Rattle.svr_gate.proofs.Vectors.{GivesNumber-width}
+use Rattle.svr_arith.specs.Division.{Divides}
 use Rattle.svr_arith.proofs.DivisionLemmas.{divides_none, divides_step}
 use Rattle.svr_arith.proofs.division.divide.Goals as goal
 
@@ -59,3 +63,47 @@ returns-clause-is_defined c =
     let all = subst (λ (l : Lit). Tells c.loop-i.b l (λ a. eqb (number a (drop (length y - length y) y)) 0)) (sym c.index-2.ensures) (c.loop-i.invariant.zeros (length y) zero (omega (arith, c.in_ok-zeros.ensures.len))) in
     let none : length y - length y ≡ 0 = omega arith in
     rw c.flipped-is_defined.ensures (Tells-flipped (Tells-same (λ a. eqb (number a y) 0) all (λ a m. ap (λ k. eqb (number a (drop k y)) 0) none)))
+
+pub index-requires : goal.index-requires
+index-requires c = omega (arith, c.in_ok-zeros.ensures.len, c.requires.len)
+
+pub index-requires-2 : goal.index-requires-2
+index-requires-2 c = omega (arith, c.in_ok-zeros.ensures.len)
+
+pub step-requires-clause-len : goal.step-requires-clause-len
+step-requires-clause-len c =
+    ap (λ (ls : List Lit). length ls) (c.deref.ensures.value ∙ c.in_ok-insert.ensures.items)
+    ∙ omega (arith, c.loop-i.invariant.divides.rest_len)
+    ∙ sym (length-take-le (c.loop-i.i + 1) c.args.y.now (omega (arith, c.requires.len)))
+
+pub step-requires-clause-rest_within : goal.step-requires-clause-rest_within
+step-requires-clause-rest_within c =
+    let d : Lit = record { var = 0; neg = false } in
+    let place = length c.args.x.now - 1 - c.loop-i.i in
+    let i = c.loop-i.invariant in
+    subst (λ (ls : List Lit). AreWithin c.loop-i.b.vars ls) (sym (c.deref.ensures.value ∙ c.in_ok-insert.ensures.items))
+    (All-cons (IsWithin c.loop-i.b.vars) (get_or c.args.x.now place d) c.loop-i.rest.items (AreWithin-later c.args.x.now i.extends c.requires.x_within place d (omega arith)) i.divides.rest_within)
+
+pub step-requires-clause-y_within : goal.step-requires-clause-y_within
+step-requires-clause-y_within c =
+    All-take (IsWithin c.loop-i.b.vars) (c.loop-i.i + 1) c.args.y.now (AreWithin-later c.args.y.now c.loop-i.invariant.extends c.requires.y_within)
+
+pub step-requires-clause-fits_within : goal.step-requires-clause-fits_within
+step-requires-clause-fits_within c =
+    subst (λ (l : Lit). IsWithin c.loop-i.b.vars l) (sym c.index.ensures)
+    (c.loop-i.invariant.zeros (length c.args.x.now - 1 - c.loop-i.i) c.index.result.now (omega (arith, c.in_ok-zeros.ensures.len, c.requires.len))).within
+
+pub returns-clause-extends : goal.returns-clause-extends
+returns-clause-extends c = c.loop-i.invariant.extends
+
+pub returns-clause-divides : goal.returns-clause-divides
+returns-clause-divides c =
+    let b = c.loop-i.b in
+    let x = c.args.x.now in
+    let y = c.args.y.now in
+    let quotient = c.loop-i.quotient.items in
+    let rest = c.loop-i.rest.items in
+    let last : c.loop-i.i ≡ length x = omega arith in
+    let none : length x - length x ≡ 0 = omega arith in
+    subst (λ (k : ℕ). Divides b quotient rest (length x) (λ a. number a (drop k x)) (λ a. number a y)) none
+    (subst (λ (k : ℕ). Divides b quotient rest k (λ a. number a (drop (length x - k) x)) (λ a. number a y)) last c.loop-i.invariant.divides)

@@ -1,4 +1,5 @@
-use Rattle.std.proofs.Common.{◌≡◌, ◌-◌, ◌+◌, length, drop, eqb}
+use Rattle.std.proofs.Common.{◌≡◌, ◌-◌, ◌+◌, ◌<◌, length, drop, eqb}
+use Rattle.std.specs.Prelude.{vec_capacity}
 use Rattle.svr_gate.specs.Numbers.{number}
 use Rattle.svr_gate.specs.Circuit.{Extends, Tells}
 use Rattle.svr_arith.specs.Division.{TellHighZeros}
@@ -10,4 +11,5 @@ invariant-loop-i l = record {
   last : Tells l.b l.are_zero (λ a. eqb (number a (drop (length l.y - l.i) l.y)) 0);
   len : length l.zeros.items ≡ l.i + 1;
   value : TellHighZeros l.b l.zeros.items l.y;
+  room : length l.y < vec_capacity l.zeros;
 }

@@ -16,11 +16,14 @@ decreases-copy_expr l = 8 * size-TExpr l.e.now
 abbrev pub decreases-copy_boxed : goal.decreases-copy_boxed
 decreases-copy_boxed l = 8 * size-TExpr l.e.now + 1
 
+abbrev pub decreases-copy_pair : goal.decreases-copy_pair
+decreases-copy_pair l = 8 * (max (size-TExpr l.first.now) (size-TExpr l.second.now)) + 2
+
 abbrev pub decreases-copy_element : goal.decreases-copy_element
 decreases-copy_element l = 8 * size-TExpr l.index.now + 2
 
 abbrev pub decreases-copy_cell : goal.decreases-copy_cell
-decreases-copy_cell l = 8 * (max (size-TExpr l.first.now) (size-TExpr l.second.now)) + 2
+decreases-copy_cell l = 8 * (max (size-TExpr l.first.now) (size-TExpr l.second.now)) + 3
 
 abbrev pub decreases-copy_reduction : goal.decreases-copy_reduction
 decreases-copy_reduction l = 8 * size-TExpr l.body.now + 2
@@ -29,19 +32,19 @@ abbrev pub decreases-copy_part : goal.decreases-copy_part
 decreases-copy_part l = 8 * size-TExpr l.part.now + 2
 
 abbrev pub decreases-copy_bit_select : goal.decreases-copy_bit_select
-decreases-copy_bit_select l = 8 * (max (size-TExpr l.base.now) (size-TExpr l.index.now)) + 2
+decreases-copy_bit_select l = 8 * (max (size-TExpr l.base.now) (size-TExpr l.index.now)) + 3
 
 abbrev pub decreases-copy_part_select : goal.decreases-copy_part_select
-decreases-copy_part_select l = 8 * (max (size-TExpr l.base.now) (max (size-TExpr l.first.now) (size-TExpr l.last.now))) + 2
+decreases-copy_part_select l = 8 * (max (size-TExpr l.base.now) (max (size-TExpr l.first.now) (size-TExpr l.last.now))) + 3
 
 abbrev pub decreases-copy_unary : goal.decreases-copy_unary
 decreases-copy_unary l = 8 * size-TExpr l.arg.now + 2
 
 abbrev pub decreases-copy_binary : goal.decreases-copy_binary
-decreases-copy_binary l = 8 * (max (size-TExpr l.left.now) (size-TExpr l.right.now)) + 2
+decreases-copy_binary l = 8 * (max (size-TExpr l.left.now) (size-TExpr l.right.now)) + 3
 
 abbrev pub decreases-copy_choice : goal.decreases-copy_choice
-decreases-copy_choice l = 8 * (max (size-TExpr l.test.now) (max (size-TExpr l.yes.now) (size-TExpr l.no.now))) + 2
+decreases-copy_choice l = 8 * (max (size-TExpr l.test.now) (max (size-TExpr l.yes.now) (size-TExpr l.no.now))) + 3
 
 abbrev pub decreases-copy_inside : goal.decreases-copy_inside
 decreases-copy_inside l = 8 * (max (size-TExpr l.left.now) (goal.size-copy_inside l)) + 5

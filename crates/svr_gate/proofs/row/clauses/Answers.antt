@@ -1,4 +1,4 @@
-use Rattle.std.proofs.Common.{◌≡◌, ◌∙◌, ◌*◌, ◌%◌, ◌^◌, ap, sym, subst, List, length, map}
+use Rattle.std.proofs.Common.{◌≡◌, ◌∙◌, ◌*◌, ◌%◌, ◌^◌, ap, sym, subst, arith, List, length, map}
 use Rattle.std.specs.Prelude.{unwrap_or}
 use Rattle.std.proofs.lemmas.List.{length-map}
 use Rattle.std.proofs.lemmas.Result.{IfOk-weaker}
@@ -46,3 +46,12 @@ returns-in-None-clause-count c =
     ∙ (row_count (length ins) c.requires).0
     ∙ sym (ap (λ o. unwrap_or o (2 ^ length ins)) c.in-None.ensures.none))
     c.rows.ensures
+
+pub overflow_cast-ins : goal.overflow_cast-ins
+overflow_cast-ins c = omega (arith, c.requires)
+
+pub overflow_shl-ins : goal.overflow_shl-ins
+overflow_shl-ins c = omega (arith, c.requires)
+
+pub rows-requires-clause-rows : goal.rows-requires-clause-rows
+rows-requires-clause-rows c = (row_count (length c.args.ins.now) c.requires).1

@@ -1,7 +1,9 @@
-use Rattle.std.proofs.Common.{◌≡◌, ap, ◌∙◌, ◌/◌, ◌<◌, ◌^◌, length, subst, arith, ℕ, false}
+use Rattle.std.proofs.Common.{◌≡◌, ap, sym, ◌∙◌, List, ◌/◌, ◌<◌, ◌^◌, length, subst, arith, ℕ, false}
+use Rattle.svr_chain.specs.declared.clause.Lit.{Lit}
+use Rattle.svr_chain.specs.Clauses.{AreWithin}
 use Rattle.svr_gate.specs.Numbers.{number}
 use Rattle.svr_gate.proofs.NumberLemmas.{number-lt}
-use Rattle.svr_gate.proofs.Circuits.{later}
+use Rattle.svr_gate.proofs.Circuits.{later, AreWithin-later}
 use Rattle.svr_gate.proofs.Vectors.{GivesNumber-same, GivesNumber-width}
 use Rattle.svr_num.specs.Num.{div_of}
 use Rattle.svr_inputs.specs.Inputs.{read_at}
@@ -32,3 +34,18 @@ returns-clause-value c =
     ∙ ap (div_of false 32 (number a x)) by
     ∙ whole_rows (number a x) c.args.inner below c.requires.inner
     ∙ ap (λ n. n / c.args.inner) all))
+
+pub numeral-requires-clause-fits : goal.numeral-requires-clause-fits
+numeral-requires-clause-fits c = omega (arith, c.ranges.inner.fits)
+
+pub div-requires-clause-len : goal.div-requires-clause-len
+div-requires-clause-len c = ap length c.deref.ensures.value ∙ c.in_ok-all.ensures.value.len ∙ sym (ap length c.deref-2.ensures.value ∙ c.in_ok-by.ensures.value.len)
+
+pub div-requires-clause-some : goal.div-requires-clause-some
+div-requires-clause-some c = omega (arith, ap length c.deref.ensures.value, c.in_ok-all.ensures.value.len)
+
+pub div-requires-clause-x_within : goal.div-requires-clause-x_within
+div-requires-clause-x_within c = subst (λ (ls : List Lit). AreWithin c.numeral.new.b.vars ls) (sym c.deref.ensures.value) (AreWithin-later c.in_ok-all.all.items c.numeral.ensures.extends c.in_ok-all.ensures.value.within)
+
+pub div-requires-clause-y_within : goal.div-requires-clause-y_within
+div-requires-clause-y_within c = subst (λ (ls : List Lit). AreWithin c.numeral.new.b.vars ls) (sym c.deref-2.ensures.value) c.in_ok-by.ensures.value.within

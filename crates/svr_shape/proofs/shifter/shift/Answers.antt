@@ -1,15 +1,16 @@
-use Rattle.std.proofs.Common.{◌≡◌, ◌∙◌, ◌^◌, ◌<◌, ◌≤◌, ◌⊎◌, inl, inr, ⊎_elim, ap, subst, sym, ℕ, List, arith, length, take, drop, get_or, cond, false, replicate, min}
+use Rattle.std.proofs.Common.{◌≡◌, ◌∙◌, ◌^◌, ◌-◌, ◌<◌, ◌≤◌, ◌⊎◌, inl, inr, ⊎_elim, ap, subst, sym, ℕ, List, arith, length, take, drop, get_or, cond, false, replicate, min}
 use Rattle.std.specs.List.{list_any}
 use Rattle.std.proofs.lemmas.Nat.{one_shl}
 use Rattle.std.proofs.lemmas.Bool.{cases_lt}
 use Rattle.std.proofs.lemmas.List.{take_rest, length-replicate}
+use Rattle.std.proofs.lemmas.List.Elements.{All-take, All-drop, All-replicate}
 use Rattle.std.proofs.lemmas.Result.{IfOk-weaker}
 use Rattle.svr_chain.specs.declared.clause.Lit.{Lit}
-use Rattle.svr_chain.specs.Clauses.{AreWithin}
+use Rattle.svr_chain.specs.Clauses.{IsWithin, AreWithin}
 use Rattle.svr_chain.specs.Valuations.{lit_value}
 use Rattle.svr_gate.specs.Numbers.{number}
 use Rattle.svr_gate.specs.Circuit.{GivesNumber}
-use Rattle.svr_gate.proofs.Circuits.{later, Tells-later, Tells-same, AreWithin-later}
+use Rattle.svr_gate.proofs.Circuits.{later, Tells-later, Tells-same, IsWithin-later, AreWithin-later}
 use Rattle.svr_gate.proofs.Vectors.{GivesNumber-width}
 use Rattle.svr_shape.specs.Shape.{is_signed, fill_of, moved_of, shift_of}
 use Rattle.svr_shape.proofs.ChoiceLemmas.{chosen_same}
@@ -84,3 +85,57 @@ returns-clause-value c =
           (λ (q : 6 < length c.args.by.now). let six : c.min-stages.result ≡ 6 = omega (arith, c.min-stages.ensures) in inr (rw six c.requires.few))
           (λ (q : length c.args.by.now ≤ 6). inl (omega (arith, c.min-stages.ensures)))
           (cases_lt 6 (length c.args.by.now))
+
+pub overflow_shl-i : goal.overflow_shl-i
+overflow_shl-i c = omega (arith, c.min-stages.ensures)
+
+pub moved-requires : goal.moved-requires
+moved-requires c = omega (arith, c.min-places.ensures, c.len.ensures, c.loop-i.shifted.ok.0, ap (λ (ls : List Lit). length ls) c.deref.ensures.value)
+
+pub offset_bounds-by-i : goal.offset_bounds-by-i
+offset_bounds-by-i c = omega (arith, c.min-stages.ensures)
+
+pub bounds-by-i : goal.bounds-by-i
+bounds-by-i c = omega (arith, c.min-stages.ensures)
+
+pub choose-requires-clause-len : goal.choose-requires-clause-len
+choose-requires-clause-len c =
+    ap (λ (ls : List Lit). length ls) (c.deref-in-loop-i.ensures.value ∙ c.in_ok-moved.ensures ∙ ap (λ ls. moved_of c.args.kind c.in_ok-fill.fill c.min-places.result ls) c.deref.ensures.value)
+    ∙ length_moved c.args.kind c.in_ok-fill.fill c.min-places.result c.loop-i.shifted.items (omega (arith, c.min-places.ensures, c.len.ensures, c.loop-i.shifted.ok.0))
+    ∙ sym (ap (λ (ls : List Lit). length ls) c.deref-in-loop-i-2.ensures.value)
+
+pub choose-requires-clause-test_within : goal.choose-requires-clause-test_within
+choose-requires-clause-test_within c = AreWithin-later c.args.by.now c.loop-i.invariant.extends c.requires.by_within c.loop-i.i (record { var = 0; neg = false }) (omega (arith, c.min-stages.ensures))
+
+pub choose-requires-clause-y_within : goal.choose-requires-clause-y_within
+choose-requires-clause-y_within c = subst (λ (ls : List Lit). AreWithin c.loop-i.b.vars ls) (sym c.deref-in-loop-i-2.ensures.value) c.loop-i.invariant.value.within
+
+pub offset_bounds-by-stages : goal.offset_bounds-by-stages
+offset_bounds-by-stages c = omega (arith, c.min-stages.ensures)
+
+pub slice_bounds-any-count : goal.slice_bounds-any-count
+slice_bounds-any-count c = omega (arith, c.min-stages.ensures)
+
+pub any-requires : goal.any-requires
+any-requires c =
+    All-take (IsWithin c.loop-i.b.vars) (length c.args.by.now - c.min-stages.result) (drop c.min-stages.result c.args.by.now)
+    (All-drop (IsWithin c.loop-i.b.vars) c.min-stages.result c.args.by.now (AreWithin-later c.args.by.now c.loop-i.invariant.extends c.requires.by_within))
+
+pub choose-requires-2-clause-len : goal.choose-requires-2-clause-len
+choose-requires-2-clause-len c =
+    ap (λ (ls : List Lit). length ls) (c.deref-2.ensures.value ∙ c.in_ok-filled.ensures)
+    ∙ length-replicate (length c.args.x.now) c.in_ok-fill.fill
+    ∙ sym (ap (λ (ls : List Lit). length ls) c.deref-3.ensures.value ∙ c.loop-i.invariant.value.len)
+
+pub choose-requires-2-clause-test_within : goal.choose-requires-2-clause-test_within
+choose-requires-2-clause-test_within c = c.in_ok-far.ensures.value.within
+
+pub choose-requires-2-clause-x_within : goal.choose-requires-2-clause-x_within
+choose-requires-2-clause-x_within c =
+    subst (λ (ls : List Lit). AreWithin c.any.new.b.vars ls) (sym (c.deref-2.ensures.value ∙ c.in_ok-filled.ensures))
+    (All-replicate (IsWithin c.any.new.b.vars) (length c.args.x.now) c.in_ok-fill.fill (IsWithin-later c.in_ok-fill.fill c.any.ensures.extends c.loop-i.invariant.fill.within))
+
+pub choose-requires-2-clause-y_within : goal.choose-requires-2-clause-y_within
+choose-requires-2-clause-y_within c =
+    subst (λ (ls : List Lit). AreWithin c.any.new.b.vars ls) (sym c.deref-3.ensures.value)
+    (AreWithin-later c.loop-i.shifted.items c.any.ensures.extends c.loop-i.invariant.value.within)

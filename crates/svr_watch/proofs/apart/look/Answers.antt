@@ -1,4 +1,4 @@
-use Rattle.std.proofs.Common.{◌≡◌, ◌∙◌, true, false, ◌||◌, None, Some, ap, sym, arith, inr}
+use Rattle.std.proofs.Common.{◌≡◌, ◌∙◌, true, false, ◌||◌, None, Some, ap, sym, arith, inl, inr}
 use Rattle.std.specs.List.{slice_get}
 use Rattle.std.proofs.lemmas.Bool.{or_left}
 use Rattle.svr_chain.specs.declared.clause.Lit.{Lit}
@@ -61,3 +61,21 @@ returns-in-None-clause-steps g c =
     let x : Lit = c.in-Some.lit.now in
     let e : one_unless_empty c.args.lits.now ≡ 1 = some-one c.args.lits.now x c.in-Some.ensures.value in
     omega (arith, e, c.tick.ensures)
+
+pub returns-then-have_opposites-clause-grown : goal.returns-then-have_opposites-clause-grown
+returns-then-have_opposites-clause-grown g c = λ ks n r. grown-none ks c.args.trail.now.entries r
+
+pub returns-then-have_opposites-clause-settled : goal.returns-then-have_opposites-clause-settled
+returns-then-have_opposites-clause-settled g c = λ _. inl (sym c.have_opposites.ensures ∙ c.if-have_opposites.true)
+
+pub returns-in-Some-true-clause-grown : goal.returns-in-Some-true-clause-grown
+returns-in-Some-true-clause-grown g c = λ ks n r. grown-none ks c.args.trail.now.entries r
+
+pub returns-in-Some-false-clause-grown : goal.returns-in-Some-false-clause-grown
+returns-in-Some-false-clause-grown g c = λ ks n r. grown-none ks c.args.trail.now.entries r
+
+pub returns-in-Some-true-clause-settled : goal.returns-in-Some-true-clause-settled
+returns-in-Some-true-clause-settled g c = λ _.
+    let x : Lit = c.in-Some.lit.now in
+    let v : value_in c.args.trail.now.entries x ≡ Some true = sym c.value.ensures ∙ c.in-Some-true.is ∙ ap Some c.in-Some-true.field-0-test in
+    inr (x, first-there c.args.lits.now x c.in-Some.ensures.value, v)

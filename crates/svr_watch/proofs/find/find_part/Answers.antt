@@ -1,5 +1,5 @@
-use Rattle.std.proofs.Common.{◌≡◌, ◌∙◌, ◌<◌, ◌≤◌, List, Some, get_or, length, map, ap, sym, arith}
-use Rattle.std.proofs.lemmas.List.{length-map}
+use Rattle.std.proofs.Common.{◌≡◌, ◌∙◌, ◌+◌, ◌<◌, ◌≤◌, ◌||◌, Bool, false, drop, List, Some, get_or, length, map, ap, sym, arith}
+use Rattle.std.proofs.lemmas.List.{at_drop_more, length-map}
 use Rattle.std.specs.List.{list_any}
 use Rattle.svr_chain.specs.declared.clause.Lit.{Lit}
 use Rattle.svr_chain.specs.Clauses.{is_within}
@@ -8,6 +8,17 @@ use Rattle.svr_watch.specs.declared.store.Held.{Held}
 use Rattle.svr_watch.specs.Store.{held_lits}
 use Rattle.svr_watch.proofs.Named.{any-map, drop-past, get_or-map}
 use Rattle.svr_watch.proofs.find.find_part.Goals as goal
+
+pub loop-held-preserved : goal.loop-held-preserved
+loop-held-preserved c =
+    let hs = c.args.clauses.now in
+    let i = c.loop-held.held-index in
+    let x : Held = c.held-item.result in
+    let test : Held → Bool = λ h. is_within (held_lits c.args.arena.now h) c.args.lits.now in
+    let no : test (get_or hs i x) ≡ false = ap test (sym c.held-item.is) ∙ sym c.is_part.ensures ∙ c.if-is_part.false in (
+      omega (arith, c.loop-held.invariant.0),
+      ap (λ b. b || list_any test (drop (i + 1) hs)) (sym no) ∙ sym (at_drop_more (list_any test) hs i x c.loop-held-test.true) ∙ c.loop-held.invariant.1,
+    )
 
 pub returns-then-is_part-clause-some : goal.returns-then-is_part-clause-some
 returns-then-is_part-clause-some c =

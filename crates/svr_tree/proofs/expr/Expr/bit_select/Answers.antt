@@ -4,5 +4,5 @@ use Rattle.svr_tree.proofs.expr.Expr.bit_select.Goals as goal
 
 pub returns : goal.returns
 returns c =
-    selected c.args.at c.args.base c.args.index c.in_ok-new.field-0 c.in_ok-new-2.field-0 None None c.args.call
-    c.in_ok-new.ensures c.in_ok-new-2.ensures refl
+    let boxed = c.in_ok-base.ensures in
+    selected c.args.at c.args.base c.args.index _ _ None None c.args.call boxed.first boxed.second refl

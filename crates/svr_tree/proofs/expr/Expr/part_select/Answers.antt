@@ -4,5 +4,5 @@ use Rattle.svr_tree.proofs.expr.Expr.part_select.Goals as goal
 
 pub returns : goal.returns
 returns c =
-    selected c.args.at c.args.base c.args.first c.in_ok-new.field-0 c.in_ok-new-2.field-0 (Some c.args.last) (Some c.in_ok-new-3.field-0) c.args.call
-    c.in_ok-new.ensures c.in_ok-new-2.ensures (ap (λ x. Some x) c.in_ok-new-3.ensures)
+    let boxed = c.in_ok-base.ensures in
+    selected c.args.at c.args.base c.args.first _ _ (Some c.args.last) _ c.args.call boxed.first boxed.second (ap (λ x. Some x) boxed.third)
