@@ -4,3 +4,4 @@ pub mod Drops
 pub mod Constant
 pub mod Operands
 pub mod Loops
+pub mod Turns

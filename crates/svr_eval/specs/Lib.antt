@@ -2,6 +2,7 @@ pub mod Reading
 pub mod Env
 pub mod Operator
 pub mod Value
+pub mod Compared
 pub mod Typed
 pub mod Holds
 pub mod Operands

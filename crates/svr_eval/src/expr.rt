@@ -1,6 +1,6 @@
 // The value of an expression, at the width and the sign of its context (IEEE 1800-2017, 11.6 to 11.8).
 
-ghost use Rattle.std.specs.Prelude.{◌≡◌, ◌≤◌, ◌<◌, ◌+◌, ◌*◌, ◌^◌, ℕ, [], length};
+ghost use Rattle.std.specs.Prelude.{◌≡◌, ◌≤◌, ◌<◌, ◌+◌, ◌*◌, ◌^◌, ◌&&◌, ℕ, [], length};
 ghost use Rattle.svr_limits.specs.declared.limit.TheConstants.{LOOP_LIMIT};
 ghost use Rattle.svr_num.specs.Num.{extend_of};
 ghost use Rattle.svr_typed.specs.ExprTerm.{expr_term, expr_terms, range_term, range_terms, bound_term, reduce as reduce_term, unary as unary_term, binary as binary_term};
@@ -9,10 +9,13 @@ ghost use Rattle.svr_eval.specs.Typed.{IsConstant, IsTyped, AreTyped, RangesAreT
 ghost use Rattle.svr_eval.specs.Operator.{unary_size, binary_size};
 ghost use Rattle.svr_eval.specs.Operator as kind;
 ghost use Rattle.svr_eval.specs.Value as spec;
+ghost use Rattle.svr_eval.specs.Compared.{compares};
 
 use crate::assign::Assign;
 use crate::env::Env;
-use crate::operator::{BinaryKind, UnaryKind, binary_kind, fold_operator, fold_start, unary_kind};
+use crate::operator::{
+    BinaryKind, Comparison, UnaryKind, binary_kind, fold_operator, fold_start, unary_kind,
+};
 use crate::parts::{
     bits, bits_from, cell_at, copied, element_at, join, literal, place_of, read, truth,
 };
@@ -225,11 +228,7 @@ fn binary(
             shift.apply(x, value(right, a, env).value(), signed)
         }
         BinaryKind::ByPair(comparison) => {
-            let common = left.width.max(right.width);
-            let both = left.signed && right.signed;
-            let x = value_at(left, common, both, a, env);
-            let y = value_at(right, common, both, a, env);
-            truth(comparison.holds(x, y, both), width, signed)
+            truth(compares(comparison, left, right, a, env), width, signed)
         }
         BinaryKind::Logical(connective) => {
             let p = value(left, a, env).value() != 0;
@@ -237,6 +236,29 @@ fn binary(
             truth(connective.holds(p, q), width, signed)
         }
     }
+}
+
+/// Whether both are signed (IEEE 1800-2017, 11.8.1).
+fn are_signed(x: &TExpr, y: &TExpr) -> bool
+    ensures { result ≡ (x.now.signed && y.now.signed) }
+{
+    x.signed && y.signed
+}
+
+/// Whether a comparison holds of two operands, at the greater of their sizes, signed where both are (IEEE 1800-2017, 11.4.4 and 11.4.5).
+#[cycle(value)]
+fn compares(comparison: Comparison, left: &TExpr, right: &TExpr, a: &Assign, env: &Env) -> bool
+    requires left_typed { IsTyped (expr_term left.now) }
+    requires right_typed { IsTyped (expr_term right.now) }
+    requires left_reads { CanRead (reading_of a.now) (length env.now) (expr_term left.now) }
+    requires right_reads { CanRead (reading_of a.now) (length env.now) (expr_term right.now) }
+    ensures { result ≡ compares comparison (spec.operand_of (reading_of a.now) env.now (expr_term left.now)) (spec.operand_of (reading_of a.now) env.now (expr_term right.now)) }
+{
+    let common = left.width.max(right.width);
+    let both = are_signed(left, right);
+    let x = value_at(left, common, both, a, env);
+    let y = value_at(right, common, both, a, env);
+    comparison.holds(x, y, both)
 }
 
 /// The parts from left to right, the first one highest.
@@ -290,7 +312,7 @@ pub(crate) fn fits(range: &TRange, left: &TExpr, a: &Assign, env: &Env) -> bool
 }
 
 /// The property that the expression as a whole is.
-pub(crate) fn property(e: &TExpr) -> Option<u32>
+pub fn property(e: &TExpr) -> Option<u32>
     ensures { result ≡ spec.property_of (expr_term e.now) }
 {
     match &e.node {
@@ -323,12 +345,14 @@ fn equals_member(member: &TExpr, left: &TExpr, a: &Assign, env: &Env) -> bool
     ensures { result ≡ spec.equals_member (reading_of a.now) (spec.operand_of (reading_of a.now) env.now (expr_term left.now))
         (spec.property_of (expr_term member.now)) (spec.operand_of (reading_of a.now) env.now (expr_term member.now)) }
 {
-    let common = left.width.max(member.width);
-    let both = left.signed && member.signed;
-    let x = value_at(left, common, both, a, env);
     match property(member) {
-        Some(prop) => is_some_element(x, prop, member.width, both, a),
-        None => x.value() == value_at(member, common, both, a, env).value(),
+        Some(prop) => {
+            let common = left.width.max(member.width);
+            let both = are_signed(left, member);
+            let x = value_at(left, common, both, a, env);
+            is_some_element(x, prop, member.width, both, a)
+        }
+        None => compares(Comparison::Equal, left, member, a, env),
     }
 }
 
@@ -358,13 +382,7 @@ fn is_from(bound: &TBound, left: &TExpr, a: &Assign, env: &Env) -> bool
     ensures { result ≡ spec.is_from (reading_of a.now) env.now (spec.operand_of (reading_of a.now) env.now (expr_term left.now)) (bound_term bound.now) }
 {
     match bound {
-        TBound::Value(low) => {
-            let common = left.width.max(low.width);
-            let both = left.signed && low.signed;
-            let x = value_at(left, common, both, a, env);
-            let y = value_at(low, common, both, a, env);
-            !x.less(y, both)
-        }
+        TBound::Value(low) => compares(Comparison::AtLeast, left, low, a, env),
         TBound::Dollar => true,
     }
 }
@@ -378,13 +396,7 @@ fn is_up_to(bound: &TBound, left: &TExpr, a: &Assign, env: &Env) -> bool
     ensures { result ≡ spec.is_up_to (reading_of a.now) env.now (spec.operand_of (reading_of a.now) env.now (expr_term left.now)) (bound_term bound.now) }
 {
     match bound {
-        TBound::Value(high) => {
-            let common = high.width.max(left.width);
-            let both = high.signed && left.signed;
-            let x = value_at(high, common, both, a, env);
-            let y = value_at(left, common, both, a, env);
-            !x.less(y, both)
-        }
+        TBound::Value(high) => compares(Comparison::AtLeast, high, left, a, env),
         TBound::Dollar => true,
     }
 }

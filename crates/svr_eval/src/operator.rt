@@ -8,7 +8,7 @@ use svr_num::Bits;
 use svr_operator::{BinOp, Fold, UnOp};
 
 /// A binary operator whose operands both have the width and sign of the context (IEEE 1800-2017, 11.4.3 and 11.4.8).
-#[derive(Clone, Copy, PartialEq, Eq)]
+#[derive(Clone, Copy)]
 pub enum Arithmetic {
     Multiply,
     Divide,
@@ -22,7 +22,7 @@ pub enum Arithmetic {
 }
 
 /// A shift: its left operand has the width and sign of the context, its right one its own (IEEE 1800-2017, 11.4.10).
-#[derive(Clone, Copy, PartialEq, Eq)]
+#[derive(Clone, Copy)]
 pub enum Shift {
     Left,
     Right,
@@ -31,7 +31,7 @@ pub enum Shift {
 }
 
 /// A comparison: both operands have the greater of their sizes, and are signed where both are (IEEE 1800-2017, 11.4.4 and 11.4.5).
-#[derive(Clone, Copy, PartialEq, Eq)]
+#[derive(Clone, Copy)]
 pub enum Comparison {
     Less,
     AtMost,
@@ -42,7 +42,7 @@ pub enum Comparison {
 }
 
 /// A logical operator: each operand is computed alone, and is true where it is not 0 (IEEE 1800-2017, 11.4.7).
-#[derive(Clone, Copy, PartialEq, Eq)]
+#[derive(Clone, Copy)]
 pub enum Connective {
     And,
     Or,
@@ -51,7 +51,7 @@ pub enum Connective {
 }
 
 /// How a binary operator takes its operands (IEEE 1800-2017, table 11-21).
-#[derive(Clone, Copy, PartialEq, Eq)]
+#[derive(Clone, Copy)]
 pub enum BinaryKind {
     InContext(Arithmetic),
     Shifted(Shift),
@@ -60,7 +60,7 @@ pub enum BinaryKind {
 }
 
 /// A unary operator whose operand has the width and sign of the context.
-#[derive(Clone, Copy, PartialEq, Eq)]
+#[derive(Clone, Copy)]
 pub enum Change {
     Plus,
     Minus,
@@ -68,7 +68,7 @@ pub enum Change {
 }
 
 /// A unary operator that makes one bit of its operand, which is computed alone (IEEE 1800-2017, 11.4.9). `!` is `Nor`.
-#[derive(Clone, Copy, PartialEq, Eq)]
+#[derive(Clone, Copy)]
 pub enum Reduction {
     And,
     Nand,
@@ -79,7 +79,7 @@ pub enum Reduction {
 }
 
 /// How a unary operator takes its operand (IEEE 1800-2017, table 11-21).
-#[derive(Clone, Copy, PartialEq, Eq)]
+#[derive(Clone, Copy)]
 pub enum UnaryKind {
     Changed(Change),
     Reduced(Reduction),

@@ -2,7 +2,7 @@
 
 ghost use Rattle.std.specs.Prelude.{◌≡◌, IfOk};
 
-use crate::memory::both;
+use crate::memory::{and_item, both, boxed};
 use sqlite_items::{Boxed, Items};
 use std::alloc::Global;
 use svr_operator::{BinOp, Fold, UnOp};
@@ -19,31 +19,31 @@ pub fn copy_expr(alloc: Global, e: &TExpr) -> Result<TExpr, NoMemory>
             every: *every,
         }),
         TNode::Prop(prop) => Ok(TNode::Prop(*prop)),
-        TNode::Element(prop, index) => copy_element(alloc, *prop, index.get()),
+        TNode::Element(prop, index) => copy_element(alloc, *prop, index),
         TNode::Cell(prop, inner, first, second) => {
-            copy_cell(alloc, *prop, *inner, first.get(), second.get())
+            copy_cell(alloc, *prop, *inner, first, second)
         }
         TNode::Size(prop, inner) => Ok(TNode::Size(*prop, *inner)),
         TNode::Script(variable) => Ok(TNode::Script(*variable)),
         TNode::Loop(depth) => Ok(TNode::Loop(*depth)),
-        TNode::Reduce(prop, op, body) => copy_reduction(alloc, *prop, *op, body.get()),
-        TNode::Of(object, part) => copy_part(alloc, *object, part.get()),
+        TNode::Reduce(prop, op, body) => copy_reduction(alloc, *prop, *op, body),
+        TNode::Of(object, part) => copy_part(alloc, *object, part),
         TNode::Select {
             base,
             first,
             last,
             low,
         } => match last {
-            None => copy_bit_select(alloc, base.get(), first.get(), *low),
-            Some(last) => copy_part_select(alloc, base.get(), first.get(), last.get(), *low),
+            None => copy_bit_select(alloc, base, first, *low),
+            Some(last) => copy_part_select(alloc, base, first, last, *low),
         },
-        TNode::Unary { op, arg } => copy_unary(alloc, *op, arg.get()),
-        TNode::Binary { op, left, right } => copy_binary(alloc, *op, left.get(), right.get()),
-        TNode::Choice { test, yes, no } => copy_choice(alloc, test.get(), yes.get(), no.get()),
-        TNode::Inside { left, set } => copy_inside(alloc, set.as_slice(), left.get()),
+        TNode::Unary { op, arg } => copy_unary(alloc, *op, arg),
+        TNode::Binary { op, left, right } => copy_binary(alloc, *op, left, right),
+        TNode::Choice { test, yes, no } => copy_choice(alloc, test, yes, no),
+        TNode::Inside { left, set } => copy_inside(alloc, set.as_slice(), left),
         TNode::Join { parts } => copy_join(alloc, parts.as_slice()),
-        TNode::Copies { count, parts } => copy_replication(alloc, parts.as_slice(), count.get()),
-        TNode::Sign { signed, arg } => copy_sign(alloc, *signed, arg.get()),
+        TNode::Copies { count, parts } => copy_replication(alloc, parts.as_slice(), count),
+        TNode::Sign { signed, arg } => copy_sign(alloc, *signed, arg),
     };
     Ok(TExpr {
         width: e.width,
@@ -53,17 +53,17 @@ pub fn copy_expr(alloc: Global, e: &TExpr) -> Result<TExpr, NoMemory>
 }
 
 #[cycle(copy_expr)]
-fn copy_boxed(alloc: Global, e: &TExpr) -> Result<Boxed<TExpr>, NoMemory>
+fn copy_boxed(alloc: Global, e: &Boxed<TExpr>) -> Result<Boxed<TExpr>, NoMemory>
     ensures { IfOk result (λ copy. copy ≡ e.now) }
 {
-    Ok(Boxed::new(alloc, copy_expr(alloc, e)?)?)
+    boxed(alloc, copy_expr(alloc, e.get()))
 }
 
 #[cycle(copy_expr)]
 fn copy_pair(
     alloc: Global,
-    first: &TExpr,
-    second: &TExpr,
+    first: &Boxed<TExpr>,
+    second: &Boxed<TExpr>,
 ) -> Result<(Boxed<TExpr>, Boxed<TExpr>), NoMemory>
     ensures first { IfOk result (λ copies. copies.0 ≡ first.now) }
     ensures second { IfOk result (λ copies. copies.1 ≡ second.now) }
@@ -72,7 +72,7 @@ fn copy_pair(
 }
 
 #[cycle(copy_expr)]
-fn copy_element(alloc: Global, prop: u32, index: &TExpr) -> Result<TNode, NoMemory>
+fn copy_element(alloc: Global, prop: u32, index: &Boxed<TExpr>) -> Result<TNode, NoMemory>
     ensures { IfOk result (λ n. n ≡ TNode.Element prop index.now) }
 {
     Ok(TNode::Element(prop, copy_boxed(alloc, index)?))
@@ -83,8 +83,8 @@ fn copy_cell(
     alloc: Global,
     prop: u32,
     inner: u32,
-    first: &TExpr,
-    second: &TExpr,
+    first: &Boxed<TExpr>,
+    second: &Boxed<TExpr>,
 ) -> Result<TNode, NoMemory>
     ensures { IfOk result (λ n. n ≡ TNode.Cell prop inner first.now second.now) }
 {
@@ -93,21 +93,31 @@ fn copy_cell(
 }
 
 #[cycle(copy_expr)]
-fn copy_reduction(alloc: Global, prop: u32, op: Fold, body: &TExpr) -> Result<TNode, NoMemory>
+fn copy_reduction(
+    alloc: Global,
+    prop: u32,
+    op: Fold,
+    body: &Boxed<TExpr>,
+) -> Result<TNode, NoMemory>
     ensures { IfOk result (λ n. n ≡ TNode.Reduce prop op body.now) }
 {
     Ok(TNode::Reduce(prop, op, copy_boxed(alloc, body)?))
 }
 
 #[cycle(copy_expr)]
-fn copy_part(alloc: Global, object: u32, part: &TExpr) -> Result<TNode, NoMemory>
+fn copy_part(alloc: Global, object: u32, part: &Boxed<TExpr>) -> Result<TNode, NoMemory>
     ensures { IfOk result (λ n. n ≡ TNode.Of object part.now) }
 {
     Ok(TNode::Of(object, copy_boxed(alloc, part)?))
 }
 
 #[cycle(copy_expr)]
-fn copy_bit_select(alloc: Global, base: &TExpr, index: &TExpr, low: i64) -> Result<TNode, NoMemory>
+fn copy_bit_select(
+    alloc: Global,
+    base: &Boxed<TExpr>,
+    index: &Boxed<TExpr>,
+    low: i64,
+) -> Result<TNode, NoMemory>
     ensures { IfOk result (λ n. n ≡ TNode.Select base.now index.now None low) }
 {
     let (base, first) = copy_pair(alloc, base, index)?;
@@ -122,9 +132,9 @@ fn copy_bit_select(alloc: Global, base: &TExpr, index: &TExpr, low: i64) -> Resu
 #[cycle(copy_expr)]
 fn copy_part_select(
     alloc: Global,
-    base: &TExpr,
-    first: &TExpr,
-    last: &TExpr,
+    base: &Boxed<TExpr>,
+    first: &Boxed<TExpr>,
+    last: &Boxed<TExpr>,
     low: i64,
 ) -> Result<TNode, NoMemory>
     ensures { IfOk result (λ n. n ≡ TNode.Select base.now first.now (Some last.now) low) }
@@ -139,7 +149,7 @@ fn copy_part_select(
 }
 
 #[cycle(copy_expr)]
-fn copy_unary(alloc: Global, op: UnOp, arg: &TExpr) -> Result<TNode, NoMemory>
+fn copy_unary(alloc: Global, op: UnOp, arg: &Boxed<TExpr>) -> Result<TNode, NoMemory>
     ensures { IfOk result (λ n. n ≡ TNode.Unary op arg.now) }
 {
     let arg = copy_boxed(alloc, arg)?;
@@ -147,7 +157,12 @@ fn copy_unary(alloc: Global, op: UnOp, arg: &TExpr) -> Result<TNode, NoMemory>
 }
 
 #[cycle(copy_expr)]
-fn copy_binary(alloc: Global, op: BinOp, left: &TExpr, right: &TExpr) -> Result<TNode, NoMemory>
+fn copy_binary(
+    alloc: Global,
+    op: BinOp,
+    left: &Boxed<TExpr>,
+    right: &Boxed<TExpr>,
+) -> Result<TNode, NoMemory>
     ensures { IfOk result (λ n. n ≡ TNode.Binary op left.now right.now) }
 {
     let (left, right) = copy_pair(alloc, left, right)?;
@@ -155,7 +170,12 @@ fn copy_binary(alloc: Global, op: BinOp, left: &TExpr, right: &TExpr) -> Result<
 }
 
 #[cycle(copy_expr)]
-fn copy_choice(alloc: Global, test: &TExpr, yes: &TExpr, no: &TExpr) -> Result<TNode, NoMemory>
+fn copy_choice(
+    alloc: Global,
+    test: &Boxed<TExpr>,
+    yes: &Boxed<TExpr>,
+    no: &Boxed<TExpr>,
+) -> Result<TNode, NoMemory>
     ensures { IfOk result (λ n. n ≡ TNode.Choice test.now yes.now no.now) }
 {
     let (test, (yes, no)) = both(copy_boxed(alloc, test), copy_pair(alloc, yes, no))?;
@@ -163,7 +183,7 @@ fn copy_choice(alloc: Global, test: &TExpr, yes: &TExpr, no: &TExpr) -> Result<T
 }
 
 #[cycle(copy_expr)]
-fn copy_inside(alloc: Global, set: &[TRange], left: &TExpr) -> Result<TNode, NoMemory>
+fn copy_inside(alloc: Global, set: &[TRange], left: &Boxed<TExpr>) -> Result<TNode, NoMemory>
     ensures { IfOk result (λ n. n ≡ TNode.Inside left.now set.now) }
 {
     let (left, set) = both(copy_boxed(alloc, left), copy_ranges(alloc, set))?;
@@ -179,7 +199,7 @@ fn copy_join(alloc: Global, parts: &[TExpr]) -> Result<TNode, NoMemory>
 }
 
 #[cycle(copy_expr)]
-fn copy_replication(alloc: Global, parts: &[TExpr], count: &TExpr) -> Result<TNode, NoMemory>
+fn copy_replication(alloc: Global, parts: &[TExpr], count: &Boxed<TExpr>) -> Result<TNode, NoMemory>
     ensures { IfOk result (λ n. n ≡ TNode.Copies count.now parts.now) }
 {
     let (count, parts) = both(copy_boxed(alloc, count), copy_exprs(alloc, parts))?;
@@ -187,7 +207,7 @@ fn copy_replication(alloc: Global, parts: &[TExpr], count: &TExpr) -> Result<TNo
 }
 
 #[cycle(copy_expr)]
-fn copy_sign(alloc: Global, signed: bool, arg: &TExpr) -> Result<TNode, NoMemory>
+fn copy_sign(alloc: Global, signed: bool, arg: &Boxed<TExpr>) -> Result<TNode, NoMemory>
     ensures { IfOk result (λ n. n ≡ TNode.Sign signed arg.now) }
 {
     let arg = copy_boxed(alloc, arg)?;
@@ -201,7 +221,7 @@ pub fn copy_exprs(alloc: Global, parts: &[TExpr]) -> Result<Items<TExpr>, NoMemo
 {
     let mut copies = Items::new(alloc);
     for e in parts {
-        copies.push(copy_expr(alloc, e)?)?;
+        copies = and_item(copies, copy_expr(alloc, e))?;
     }
     Ok(copies)
 }
@@ -212,7 +232,7 @@ fn copy_ranges(alloc: Global, set: &[TRange]) -> Result<Items<TRange>, NoMemory>
 {
     let mut copies = Items::new(alloc);
     for range in set {
-        copies.push(copy_range(alloc, range)?)?;
+        copies = and_item(copies, copy_range(alloc, range))?;
     }
     Ok(copies)
 }

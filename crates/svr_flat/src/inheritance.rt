@@ -8,7 +8,7 @@ ghost use Rattle.svr_flat.specs.Known.{AreKnown};
 
 use crate::items::copy_prop;
 use crate::lineage::{Known, base_blocks, base_props, lineage_of};
-use crate::memory::push;
+use crate::memory::{both, push};
 use crate::standing::blocks_of;
 use sqlite_items::Items;
 use std::alloc::Global;
@@ -73,8 +73,9 @@ pub fn flatten_over(
 {
     let classes = design.classes.as_slice();
     let (lineage, base) = lineage_of(alloc, classes, known, class)?;
-    let blocks = blocks_of(alloc, classes, &lineage, base_blocks(known, base))?;
-    let props = props_of(alloc, classes, lineage, base_props(known, base))?;
+    let blocks = blocks_of(alloc, classes, &lineage, base_blocks(known, base));
+    let props = props_of(alloc, classes, lineage, base_props(known, base));
+    let (props, blocks) = both(props, blocks)?;
     Ok(FlatClass { props, blocks })
 }
 

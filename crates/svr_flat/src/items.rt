@@ -3,7 +3,7 @@
 ghost use Rattle.std.specs.Prelude.{◌≡◌, IfOk};
 
 use crate::exprs::{copy_expr, copy_exprs, copy_range};
-use crate::memory::{beside, both};
+use crate::memory::{and_item, beside, both};
 use sqlite_items::Items;
 use std::alloc::Global;
 use svr_operator::Share;
@@ -66,7 +66,7 @@ fn copy_members(alloc: Global, members: &[TDistItem]) -> Result<Items<TDistItem>
 {
     let mut copies = Items::new(alloc);
     for member in members {
-        copies.push(copy_member(alloc, member)?)?;
+        copies = and_item(copies, copy_member(alloc, member))?;
     }
     Ok(copies)
 }
@@ -178,7 +178,7 @@ pub fn copy_items(alloc: Global, items: &[TItem]) -> Result<Items<TItem>, NoMemo
 {
     let mut copies = Items::new(alloc);
     for item in items {
-        copies.push(copy_item(alloc, item)?)?;
+        copies = and_item(copies, copy_item(alloc, item))?;
     }
     Ok(copies)
 }

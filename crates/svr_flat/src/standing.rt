@@ -32,7 +32,7 @@ fn not_named(
 ) -> Result<Vec<TBlock>, NoMemory>
     ensures { IfOk result (λ kept. block_terms kept.items ≡ not_named (map bytes_of names.now.keys) (block_terms blocks.items)) }
 {
-    let mut kept = Vec::with_capacity(alloc, blocks.len())?;
+    let mut kept = Vec::new(alloc);
     for block in blocks {
         if !is_among(names, block.name.as_bytes()) {
             push(&mut kept, block)?;

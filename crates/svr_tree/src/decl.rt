@@ -6,7 +6,7 @@ use sqlite_items::Items;
 use svr_operator::Rand;
 
 /// IEEE 1800-2017, A.2.2.1: `integer_vector_type`
-#[derive(Clone, Copy, PartialEq, Eq)]
+#[derive(Clone, Copy)]
 pub enum VectorKind {
     Bit,
     Logic,
@@ -14,7 +14,7 @@ pub enum VectorKind {
 }
 
 /// IEEE 1800-2017, A.2.2.1: `integer_atom_type`
-#[derive(Clone, Copy, PartialEq, Eq)]
+#[derive(Clone, Copy)]
 pub enum AtomKind {
     Byte,
     ShortInt,
@@ -24,7 +24,7 @@ pub enum AtomKind {
 }
 
 /// IEEE 1800-2017, A.2.2.1: `signing`
-#[derive(Clone, Copy, PartialEq, Eq)]
+#[derive(Clone, Copy)]
 pub enum Signing {
     Signed,
     Unsigned,

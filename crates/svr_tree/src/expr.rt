@@ -4,13 +4,13 @@ ghost use Rattle.std.specs.Prelude.{◌≡◌, IfOk};
 ghost use Rattle.svr_tree.specs.ExprTree as tree;
 ghost use Rattle.svr_tree.specs.ExprTree.{expr_tree, range_tree, bound_tree, expr_trees, range_trees};
 
-use crate::memory::{NoMemory, boxed_pair, boxed_three};
+use crate::memory::{NoMemory, boxed, boxed_pair, boxed_three};
 use sqlite_items::{Boxed, Items};
 use std::alloc::Global;
 use svr_operator::{BinOp, Fold, UnOp};
 
 /// Where a path looks for its first name: by the common rules, or behind `local::` or `this.` (IEEE 1800-2017, 18.7.1 and 8.11).
-#[derive(Clone, Copy, PartialEq, Eq)]
+#[derive(Clone, Copy)]
 pub enum Scope {
     Plain,
     Local,
@@ -18,7 +18,7 @@ pub enum Scope {
 }
 
 /// What stands between the name of an array reduction and `with`: the name of an element in the body (IEEE 1800-2017, A.8.2 and 7.12, iterator_argument).
-#[derive(Clone, Copy, PartialEq, Eq)]
+#[derive(Clone, Copy)]
 pub enum IteratorArgument {
     /// No parentheses, so an element is `item`.
     Absent,
@@ -173,14 +173,16 @@ impl Expr {
     ) -> Result<Expr, NoMemory>
         ensures { IfOk result (λ e. expr_tree e ≡ tree.bit_select at (expr_tree base) (expr_tree index) call) }
     {
-        let (base, first) = boxed_pair(alloc, base, index)?;
-        Ok(Expr::Select {
-            at,
-            base,
-            first,
-            last: None,
-            call,
-        })
+        match boxed_pair(alloc, base, index) {
+            None => Err(NoMemory),
+            Some((base, first)) => Ok(Expr::Select {
+                at,
+                base,
+                first,
+                last: None,
+                call,
+            }),
+        }
     }
 
     /// A part-select between two bounds (11.5.1).
@@ -194,25 +196,26 @@ impl Expr {
     ) -> Result<Expr, NoMemory>
         ensures { IfOk result (λ e. expr_tree e ≡ tree.part_select at (expr_tree base) (expr_tree first) (expr_tree last) call) }
     {
-        let (base, first, last) = boxed_three(alloc, base, first, last)?;
-        Ok(Expr::Select {
-            at,
-            base,
-            first,
-            last: Some(last),
-            call,
-        })
+        match boxed_three(alloc, base, first, last) {
+            None => Err(NoMemory),
+            Some(((base, first), last)) => Ok(Expr::Select {
+                at,
+                base,
+                first,
+                last: Some(last),
+                call,
+            }),
+        }
     }
 
     /// A unary operator and its operand (11.4).
     pub fn unary(alloc: Global, at: u32, op: UnOp, arg: Expr) -> Result<Expr, NoMemory>
         ensures { IfOk result (λ e. expr_tree e ≡ tree.unary at op (expr_tree arg)) }
     {
-        Ok(Expr::Unary {
-            at,
-            op,
-            arg: Boxed::new(alloc, arg)?,
-        })
+        match boxed(alloc, arg) {
+            None => Err(NoMemory),
+            Some(arg) => Ok(Expr::Unary { at, op, arg }),
+        }
     }
 
     /// A binary operator and its operands (11.4).
@@ -225,32 +228,35 @@ impl Expr {
     ) -> Result<Expr, NoMemory>
         ensures { IfOk result (λ e. expr_tree e ≡ tree.binary at op (expr_tree left) (expr_tree right)) }
     {
-        let (left, right) = boxed_pair(alloc, left, right)?;
-        Ok(Expr::Binary {
-            at,
-            op,
-            left,
-            right,
-        })
+        match boxed_pair(alloc, left, right) {
+            None => Err(NoMemory),
+            Some((left, right)) => Ok(Expr::Binary {
+                at,
+                op,
+                left,
+                right,
+            }),
+        }
     }
 
     /// The conditional operator (11.4.11).
     pub fn choice(alloc: Global, at: u32, test: Expr, yes: Expr, no: Expr) -> Result<Expr, NoMemory>
         ensures { IfOk result (λ e. expr_tree e ≡ tree.choice at (expr_tree test) (expr_tree yes) (expr_tree no)) }
     {
-        let (test, yes, no) = boxed_three(alloc, test, yes, no)?;
-        Ok(Expr::Choice { at, test, yes, no })
+        match boxed_three(alloc, test, yes, no) {
+            None => Err(NoMemory),
+            Some(((test, yes), no)) => Ok(Expr::Choice { at, test, yes, no }),
+        }
     }
 
     /// Set membership (11.4.13).
     pub fn inside(alloc: Global, at: u32, left: Expr, set: Items<Range>) -> Result<Expr, NoMemory>
         ensures { IfOk result (λ e. expr_tree e ≡ tree.inside at (expr_tree left) (range_trees set)) }
     {
-        Ok(Expr::Inside {
-            at,
-            left: Boxed::new(alloc, left)?,
-            set,
-        })
+        match boxed(alloc, left).zip(Some(set)) {
+            None => Err(NoMemory),
+            Some((left, set)) => Ok(Expr::Inside { at, left, set }),
+        }
     }
 
     /// A concatenation (11.4.12).
@@ -264,32 +270,30 @@ impl Expr {
     pub fn copies(alloc: Global, at: u32, count: Expr, parts: Items<Expr>) -> Result<Expr, NoMemory>
         ensures { IfOk result (λ e. expr_tree e ≡ tree.copies at (expr_tree count) (expr_trees parts)) }
     {
-        Ok(Expr::Copies {
-            at,
-            count: Boxed::new(alloc, count)?,
-            parts,
-        })
+        match boxed(alloc, count).zip(Some(parts)) {
+            None => Err(NoMemory),
+            Some((count, parts)) => Ok(Expr::Copies { at, count, parts }),
+        }
     }
 
     /// `$signed` or `$unsigned` (11.7).
     pub fn sign(alloc: Global, at: u32, signed: bool, arg: Expr) -> Result<Expr, NoMemory>
         ensures { IfOk result (λ e. expr_tree e ≡ tree.sign at signed (expr_tree arg)) }
     {
-        Ok(Expr::Sign {
-            at,
-            signed,
-            arg: Boxed::new(alloc, arg)?,
-        })
+        match boxed(alloc, arg) {
+            None => Err(NoMemory),
+            Some(arg) => Ok(Expr::Sign { at, signed, arg }),
+        }
     }
 
     /// An expression in parentheses.
     pub fn paren(alloc: Global, at: u32, arg: Expr) -> Result<Expr, NoMemory>
         ensures { IfOk result (λ e. expr_tree e ≡ tree.paren at (expr_tree arg)) }
     {
-        Ok(Expr::Paren {
-            at,
-            arg: Boxed::new(alloc, arg)?,
-        })
+        match boxed(alloc, arg) {
+            None => Err(NoMemory),
+            Some(arg) => Ok(Expr::Paren { at, arg }),
+        }
     }
 
     /// A reduction method of an array, with its `with` clause (7.12.3).
@@ -303,14 +307,16 @@ impl Expr {
     ) -> Result<Expr, NoMemory>
         ensures { IfOk result (λ e. expr_tree e ≡ tree.reduce at (expr_tree array) op item (expr_tree body)) }
     {
-        let (array, body) = boxed_pair(alloc, array, body)?;
-        Ok(Expr::Reduce {
-            at,
-            array,
-            op,
-            item,
-            body,
-        })
+        match boxed_pair(alloc, array, body) {
+            None => Err(NoMemory),
+            Some((array, body)) => Ok(Expr::Reduce {
+                at,
+                array,
+                op,
+                item,
+                body,
+            }),
+        }
     }
 }
 

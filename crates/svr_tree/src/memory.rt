@@ -1,6 +1,6 @@
 // Want of memory, and boxes for the parts of a node. These functions are generic, so that a node lets its parts go in one call where memory ends.
 
-ghost use Rattle.std.specs.Prelude.{◌≡◌, IfOk};
+ghost use Rattle.std.specs.Prelude.{◌≡◌, IfSome};
 
 use sqlite_items::Boxed;
 use std::alloc::{AllocError, Global};
@@ -15,16 +15,23 @@ impl From<AllocError> for NoMemory {
     }
 }
 
+/// A value in a box, where there is memory for it.
+pub(crate) fn boxed<T: Drop>(alloc: Global, value: T) -> Option<Boxed<T>>
+    ensures { IfSome result (λ b. b ≡ value) }
+{
+    Boxed::new(alloc, value).ok()
+}
+
 /// Two values in boxes, where there is memory for both.
 pub(crate) fn boxed_pair<T: Drop>(
     alloc: Global,
     first: T,
     second: T,
-) -> Result<(Boxed<T>, Boxed<T>), NoMemory>
-    ensures first { IfOk result (λ boxes. boxes.0 ≡ first) }
-    ensures second { IfOk result (λ boxes. boxes.1 ≡ second) }
+) -> Option<(Boxed<T>, Boxed<T>)>
+    ensures first { IfSome result (λ boxes. boxes.0 ≡ first) }
+    ensures second { IfSome result (λ boxes. boxes.1 ≡ second) }
 {
-    Ok((Boxed::new(alloc, first)?, Boxed::new(alloc, second)?))
+    boxed(alloc, first).zip(boxed(alloc, second))
 }
 
 /// Three values in boxes, where there is memory for all.
@@ -33,11 +40,10 @@ pub(crate) fn boxed_three<T: Drop>(
     first: T,
     second: T,
     third: T,
-) -> Result<(Boxed<T>, Boxed<T>, Boxed<T>), NoMemory>
-    ensures first { IfOk result (λ boxes. boxes.0 ≡ first) }
-    ensures second { IfOk result (λ boxes. boxes.1 ≡ second) }
-    ensures third { IfOk result (λ boxes. boxes.2 ≡ third) }
+) -> Option<((Boxed<T>, Boxed<T>), Boxed<T>)>
+    ensures first { IfSome result (λ boxes. boxes.0.0 ≡ first) }
+    ensures second { IfSome result (λ boxes. boxes.0.1 ≡ second) }
+    ensures third { IfSome result (λ boxes. boxes.1 ≡ third) }
 {
-    let (first, second) = boxed_pair(alloc, first, second)?;
-    Ok((first, second, Boxed::new(alloc, third)?))
+    boxed_pair(alloc, first, second).zip(boxed(alloc, third))
 }

@@ -5,13 +5,13 @@ use crate::stmt::Stmt;
 use sqlite_items::Items;
 
 /// One of the declarations before the unit: the next type, or the next class.
-#[derive(Clone, Copy, PartialEq, Eq)]
+#[derive(Clone, Copy)]
 pub enum Top {
     OfType,
     OfClass,
 }
 
-#[derive(Clone, Copy, PartialEq, Eq)]
+#[derive(Clone, Copy)]
 pub enum UnitKind {
     Module,
     Program,

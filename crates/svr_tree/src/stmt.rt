@@ -7,7 +7,7 @@ ghost use Rattle.svr_tree.specs.StmtTree.{stmt_tree, stmt_trees, right_tree, ran
 
 use crate::expr::Expr;
 use crate::item::Item;
-use crate::memory::NoMemory;
+use crate::memory::{NoMemory, boxed};
 use sqlite_items::{Boxed, Items};
 use std::alloc::Global;
 
@@ -27,7 +27,7 @@ pub struct RandomizeCall {
     pub with: Option<Items<Item>>,
 }
 
-#[derive(Clone, Copy, PartialEq, Eq)]
+#[derive(Clone, Copy)]
 pub enum ModeKind {
     /// `rand_mode` (IEEE 1800-2017, 18.8)
     Rand,
@@ -57,7 +57,7 @@ pub enum RightSide {
 }
 
 /// How a call of `randomize` stands as a statement.
-#[derive(Clone, Copy, PartialEq, Eq)]
+#[derive(Clone, Copy)]
 pub enum CallForm {
     /// `call;`
     Plain,
@@ -122,11 +122,10 @@ impl Stmt {
     pub fn repeat(alloc: Global, at: u32, count: Expr, body: Stmt) -> Result<Stmt, NoMemory>
         ensures { IfOk result (λ s. stmt_tree s ≡ tree.repeat at (expr_tree count) (stmt_tree body)) }
     {
-        Ok(Stmt::Repeat {
-            at,
-            count,
-            body: Boxed::new(alloc, body)?,
-        })
+        match boxed(alloc, body).zip(Some(count)) {
+            None => Err(NoMemory),
+            Some((body, count)) => Ok(Stmt::Repeat { at, count, body }),
+        }
     }
 
     /// An assignment (10.4).

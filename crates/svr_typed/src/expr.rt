@@ -4,7 +4,7 @@ ghost use Rattle.std.specs.Prelude.{◌≡◌, IfOk};
 ghost use Rattle.svr_typed.specs.ExprTerm as term;
 ghost use Rattle.svr_typed.specs.ExprTerm.{expr_term, node_term, range_term, bound_term, expr_terms, range_terms};
 
-use crate::memory::{NoMemory, boxed_pair, boxed_three};
+use crate::memory::{NoMemory, boxed, boxed_pair, boxed_three};
 use sqlite_items::{Boxed, Items};
 use std::alloc::Global;
 use svr_operator::{BinOp, Fold, UnOp};
@@ -134,7 +134,10 @@ impl TNode {
     pub fn element(alloc: Global, prop: u32, index: TExpr) -> Result<TNode, NoMemory>
         ensures { IfOk result (λ n. node_term n ≡ term.element prop (expr_term index)) }
     {
-        Ok(TNode::Element(prop, Boxed::new(alloc, index)?))
+        match boxed(alloc, index) {
+            None => Err(NoMemory),
+            Some(index) => Ok(TNode::Element(prop, index)),
+        }
     }
 
     /// An element by its two indexes; `inner` is the second dimension.
@@ -147,8 +150,10 @@ impl TNode {
     ) -> Result<TNode, NoMemory>
         ensures { IfOk result (λ n. node_term n ≡ term.cell prop inner (expr_term first) (expr_term second)) }
     {
-        let (first, second) = boxed_pair(alloc, first, second)?;
-        Ok(TNode::Cell(prop, inner, first, second))
+        match boxed_pair(alloc, first, second) {
+            None => Err(NoMemory),
+            Some((first, second)) => Ok(TNode::Cell(prop, inner, first, second)),
+        }
     }
 
     /// The first dimension of an array whose second one is `inner`.
@@ -176,27 +181,35 @@ impl TNode {
     pub fn reduce(alloc: Global, prop: u32, op: Fold, body: TExpr) -> Result<TNode, NoMemory>
         ensures { IfOk result (λ n. node_term n ≡ term.reduce prop op (expr_term body)) }
     {
-        Ok(TNode::Reduce(prop, op, Boxed::new(alloc, body)?))
+        match boxed(alloc, body) {
+            None => Err(NoMemory),
+            Some(body) => Ok(TNode::Reduce(prop, op, body)),
+        }
     }
 
     /// A part of the object that an object variable has.
     pub fn of_object(alloc: Global, object: u32, part: TExpr) -> Result<TNode, NoMemory>
         ensures { IfOk result (λ n. node_term n ≡ term.of_object object (expr_term part)) }
     {
-        Ok(TNode::Of(object, Boxed::new(alloc, part)?))
+        match boxed(alloc, part) {
+            None => Err(NoMemory),
+            Some(part) => Ok(TNode::Of(object, part)),
+        }
     }
 
     /// A bit by its number; `low` is the lowest bit's.
     pub fn bit_select(alloc: Global, base: TExpr, index: TExpr, low: i64) -> Result<TNode, NoMemory>
         ensures { IfOk result (λ n. node_term n ≡ term.bit_select (expr_term base) (expr_term index) low) }
     {
-        let (base, first) = boxed_pair(alloc, base, index)?;
-        Ok(TNode::Select {
-            base,
-            first,
-            last: None,
-            low,
-        })
+        match boxed_pair(alloc, base, index) {
+            None => Err(NoMemory),
+            Some((base, first)) => Ok(TNode::Select {
+                base,
+                first,
+                last: None,
+                low,
+            }),
+        }
     }
 
     /// The bits from one number down to another; `low` is the lowest bit's.
@@ -209,49 +222,55 @@ impl TNode {
     ) -> Result<TNode, NoMemory>
         ensures { IfOk result (λ n. node_term n ≡ term.part_select (expr_term base) (expr_term first) (expr_term last) low) }
     {
-        let (base, first, last) = boxed_three(alloc, base, first, last)?;
-        Ok(TNode::Select {
-            base,
-            first,
-            last: Some(last),
-            low,
-        })
+        match boxed_three(alloc, base, first, last) {
+            None => Err(NoMemory),
+            Some(((base, first), last)) => Ok(TNode::Select {
+                base,
+                first,
+                last: Some(last),
+                low,
+            }),
+        }
     }
 
     /// A unary operator and its operand.
     pub fn unary(alloc: Global, op: UnOp, arg: TExpr) -> Result<TNode, NoMemory>
         ensures { IfOk result (λ n. node_term n ≡ term.unary op (expr_term arg)) }
     {
-        Ok(TNode::Unary {
-            op,
-            arg: Boxed::new(alloc, arg)?,
-        })
+        match boxed(alloc, arg) {
+            None => Err(NoMemory),
+            Some(arg) => Ok(TNode::Unary { op, arg }),
+        }
     }
 
     /// A binary operator and its operands.
     pub fn binary(alloc: Global, op: BinOp, left: TExpr, right: TExpr) -> Result<TNode, NoMemory>
         ensures { IfOk result (λ n. node_term n ≡ term.binary op (expr_term left) (expr_term right)) }
     {
-        let (left, right) = boxed_pair(alloc, left, right)?;
-        Ok(TNode::Binary { op, left, right })
+        match boxed_pair(alloc, left, right) {
+            None => Err(NoMemory),
+            Some((left, right)) => Ok(TNode::Binary { op, left, right }),
+        }
     }
 
     /// The conditional operator: a test, and the values where it is true and where it is not.
     pub fn choice(alloc: Global, test: TExpr, yes: TExpr, no: TExpr) -> Result<TNode, NoMemory>
         ensures { IfOk result (λ n. node_term n ≡ term.choice (expr_term test) (expr_term yes) (expr_term no)) }
     {
-        let (test, yes, no) = boxed_three(alloc, test, yes, no)?;
-        Ok(TNode::Choice { test, yes, no })
+        match boxed_three(alloc, test, yes, no) {
+            None => Err(NoMemory),
+            Some(((test, yes), no)) => Ok(TNode::Choice { test, yes, no }),
+        }
     }
 
     /// Whether a value is in a set.
     pub fn inside(alloc: Global, left: TExpr, set: Items<TRange>) -> Result<TNode, NoMemory>
         ensures { IfOk result (λ n. node_term n ≡ term.inside (expr_term left) (range_terms set)) }
     {
-        Ok(TNode::Inside {
-            left: Boxed::new(alloc, left)?,
-            set,
-        })
+        match boxed(alloc, left).zip(Some(set)) {
+            None => Err(NoMemory),
+            Some((left, set)) => Ok(TNode::Inside { left, set }),
+        }
     }
 
     /// A concatenation, the highest part first.
@@ -265,20 +284,20 @@ impl TNode {
     pub fn copies(alloc: Global, count: TExpr, parts: Items<TExpr>) -> Result<TNode, NoMemory>
         ensures { IfOk result (λ n. node_term n ≡ term.copies (expr_term count) (expr_terms parts)) }
     {
-        Ok(TNode::Copies {
-            count: Boxed::new(alloc, count)?,
-            parts,
-        })
+        match boxed(alloc, count).zip(Some(parts)) {
+            None => Err(NoMemory),
+            Some((count, parts)) => Ok(TNode::Copies { count, parts }),
+        }
     }
 
     /// `$signed` or `$unsigned`.
     pub fn sign(alloc: Global, signed: bool, arg: TExpr) -> Result<TNode, NoMemory>
         ensures { IfOk result (λ n. node_term n ≡ term.sign signed (expr_term arg)) }
     {
-        Ok(TNode::Sign {
-            signed,
-            arg: Boxed::new(alloc, arg)?,
-        })
+        match boxed(alloc, arg) {
+            None => Err(NoMemory),
+            Some(arg) => Ok(TNode::Sign { signed, arg }),
+        }
     }
 }
 

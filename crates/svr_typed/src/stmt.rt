@@ -10,7 +10,7 @@ ghost use Rattle.svr_typed.specs.StmtTerm.{stmt_term, stmt_terms, call_term, des
 use crate::class::{EnumType, NumType, TClass};
 use crate::expr::TExpr;
 use crate::item::TItem;
-use crate::memory::NoMemory;
+use crate::memory::{NoMemory, boxed};
 use crate::text::Text;
 use sqlite_items::{Boxed, Items};
 use std::alloc::Global;
@@ -33,7 +33,7 @@ pub struct CallStmt {
 }
 
 /// The type of a script variable: an integral type, or a class by its number.
-#[derive(Clone, Copy, PartialEq, Eq)]
+#[derive(Clone, Copy)]
 pub enum VarKind {
     Number(NumType),
     Object(u32),
@@ -184,7 +184,10 @@ impl TStmt {
     pub fn repeat(alloc: Global, count: u32, body: TStmt) -> Result<TStmt, NoMemory>
         ensures { IfOk result (λ s. stmt_term s ≡ term.repeat count (stmt_term body)) }
     {
-        Ok(TStmt::Repeat(count, Boxed::new(alloc, body)?))
+        match boxed(alloc, body) {
+            None => Err(NoMemory),
+            Some(body) => Ok(TStmt::Repeat(count, body)),
+        }
     }
 
     /// Statements that run one after the other.

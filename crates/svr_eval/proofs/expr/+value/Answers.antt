@@ -1,12 +1,14 @@
-use Rattle.std.proofs.Common.{arith, ◌≡◌, ◌-◌, ◌<◌, ◌∙◌, [], length, suc}
+use Rattle.std.proofs.Common.{arith, ◌≡◌, ◌-◌, ◌+◌, ◌<◌, ◌||◌, ◌∙◌, ap, sym, Bool, List, [], length, drop, suc}
 use denote.Param.Weighed.{at_most}
 use Rattle.svr_typed.specs.declared.expr.TExpr.{size-TExpr}
-use Rattle.svr_typed.specs.ExprTerm.{expr_term, expr_terms}
+use Rattle.svr_typed.specs.declared.expr.TRange.{TRange}
+use Rattle.svr_typed.specs.ExprTerm.{expr_term, expr_terms, range_terms}
 use Rattle.svr_eval.specs.Reading.{blank, reading_of}
-use Rattle.svr_eval.specs.Value.{alone, sizes}
+use Rattle.svr_eval.specs.Value.{alone, sizes, fits_some, operand_of}
 use Rattle.svr_eval.proofs.Bits.{factors}
 use Rattle.svr_eval.proofs.Constant.{constant_alone}
 use Rattle.svr_eval.proofs.Drops.{typed_at, reads_at, sizes_at, some_part}
+use Rattle.svr_eval.proofs.Turns.{turned, ranges_typed, ranges_read}
 use Rattle.svr_eval.proofs.expr.+value.Goals as goal
 
 pub joined-value-whole-requires : goal.joined-value-whole-requires
@@ -55,3 +57,17 @@ pub replicated-returns-clause-width : goal.replicated-returns-clause-width
 replicated-returns-clause-width t c =
     c.copied.ensures.width
     ∙ rw (c.value-count.ensures.value, c.value.ensures.value, c.joined.ensures.width, constant_alone (reading_of c.args.a.now) c.args.env.now (expr_term c.args.count.now) c.requires.constant) c.requires.size
+
+pub fits_some-loop-range-preserved : goal.fits_some-loop-range-preserved
+fits_some-loop-range-preserved t c =
+    let a = reading_of c.args.a.now in
+    let env = c.args.env.now in
+    let set = c.args.set.now in
+    let next = c.loop-range.range-index + 1 in
+    let found = λ (rs : List TRange). fits_some a env (operand_of a env (expr_term c.args.left.now)) (range_terms rs) in
+    record {
+      typed = ranges_typed set next c.requires.set_typed;
+      reads = ranges_read a (length env) set next c.requires.set_reads;
+      same = turned found set c.loop-range.range-index c.range-item.result c.loop-range-test.true c.range-item.is
+          (ap (λ (b : Bool). b || found (drop next set)) (sym c.fits.ensures ∙ c.if-fits.false)) c.loop-range.invariant.same;
+    }

@@ -39,6 +39,9 @@ decreases-unary l = 8 * size-TExpr l.x.now + 3
 abbrev pub decreases-binary : goal.decreases-binary
 decreases-binary l = 8 * max (size-TExpr l.left.now) (size-TExpr l.right.now) + 3
 
+abbrev pub decreases-compares : goal.decreases-compares
+decreases-compares l = 8 * max (size-TExpr l.left.now) (size-TExpr l.right.now) + 2
+
 abbrev pub decreases-fits_some : goal.decreases-fits_some
 decreases-fits_some l = 8 * max (size-TExpr l.left.now) (goal.size-fits_some l) + 6
 

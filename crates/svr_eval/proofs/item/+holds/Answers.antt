@@ -1,8 +1,10 @@
-use Rattle.std.proofs.Common.{arith, sym, ◌∙◌}
+use Rattle.std.proofs.Common.{arith, ◌+◌, ◌&&◌, sym, ap, ◌∙◌, Bool, List, length, drop}
+use Rattle.svr_typed.specs.declared.item.TItem.{TItem}
 use Rattle.svr_typed.specs.ItemTerm.{item_terms}
 use Rattle.svr_eval.specs.Reading.{reading_of}
 use Rattle.svr_eval.specs.Holds.{all_hold}
 use Rattle.svr_eval.proofs.Loops.{foreach_fails, foreach_holds, row_fails}
+use Rattle.svr_eval.proofs.Turns.{turned, items_typed, items_read}
 use Rattle.svr_eval.proofs.item.+holds.Goals as goal
 
 pub holds-returns-then-not-row_holds : goal.holds-returns-then-not-row_holds
@@ -23,3 +25,17 @@ row_holds-returns-then-not-all_hold t c =
     let fails = rw c.inner.ensures at c.all_hold-in-loop-j.ensures in
     row_fails c.args.inner c.args.names c.loop-j.j (λ indexes. all_hold (reading_of c.args.a.now) indexes (item_terms c.args.body.now)) c.args.env.now
     c.if-names-ne2.false c.loop-j-test.true (sym fails ∙ c.if-not-all_hold.true)
+
+pub all_hold-loop-item-preserved : goal.all_hold-loop-item-preserved
+all_hold-loop-item-preserved t c =
+    let a = reading_of c.args.a.now in
+    let env = c.args.env.now in
+    let items = c.args.items.now in
+    let next = c.loop-item.item-index + 1 in
+    let told = λ (is : List TItem). all_hold a env (item_terms is) in
+    record {
+      typed = items_typed items next c.requires.typed;
+      reads = items_read a (length env) items next c.requires.reads;
+      same = turned told items c.loop-item.item-index c.item-item.result c.loop-item-test.true c.item-item.is
+          (ap (λ (b : Bool). b && told (drop next items)) (sym c.holds.ensures ∙ c.if-not-holds.false)) c.loop-item.invariant.same;
+    }

@@ -15,8 +15,8 @@ returns c =
     let flats = map flat_term c.args.known.now.flats.now in
     let line = c.in_ok-lineage.lineage.items in
     let end = c.in_ok-lineage.base in
-    flat_is cs line c.args.class (base_of flats end) (flat_if cs end) c.in_ok-props.props (block_terms c.in_ok-blocks.blocks)
+    flat_is cs line c.args.class (base_of flats end) (flat_if cs end) c.in_ok-props.props (block_terms c.in_ok-props.blocks)
     (rw is at c.in_ok-lineage.ensures.over)
     (base_is cs flats c.args.known.now.marks.now end c.requires (rw length-map c.in_ok-lineage.ensures.end))
-    (rw is at (c.in_ok-props.ensures ∙ ap (props_along (class_terms c.as_slice-classes.result.now) line) c.base_props.ensures))
-    (rw is at (c.in_ok-blocks.ensures ∙ (λ k. blocks_along (class_terms c.as_slice-classes.result.now) (c.deref.ensures.value k) (c.base_blocks.ensures k))))
+    (rw is at ((rw c.in_ok-props.ensures.first at c.props_of-props.ensures) ∙ ap (props_along (class_terms c.as_slice-classes.result.now) line) c.base_props.ensures))
+    (rw is at ((rw c.in_ok-props.ensures.second at c.blocks_of-blocks.ensures) ∙ (λ k. blocks_along (class_terms c.as_slice-classes.result.now) (c.deref.ensures.value k) (c.base_blocks.ensures k))))

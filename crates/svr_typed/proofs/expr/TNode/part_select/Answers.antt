@@ -2,7 +2,7 @@ use Rattle.std.proofs.Common.{Some, ap}
 use Rattle.svr_typed.proofs.Selects.{selected}
 use Rattle.svr_typed.proofs.expr.TNode.part_select.Goals as goal
 
-pub returns : goal.returns
-returns c =
-    let boxed = c.in_ok-base.ensures in
+pub returns-in-Some : goal.returns-in-Some
+returns-in-Some c =
+    let boxed = c.in-Some.ensures in
     selected c.args.base c.args.first _ _ (Some c.args.last) _ c.args.low c.ranges.low boxed.first boxed.second (ap (λ x. Some x) boxed.third)
