@@ -12,7 +12,7 @@ ghost use Rattle.svr_frame_of.specs.Callable.{state_of, IsCallable};
 use crate::free::with_free_sizes;
 use crate::held::both;
 use crate::object::{active_items, random_set, state_of};
-use crate::parts::{copy_class, copy_enums};
+use crate::parts::{copy_class, copy_list};
 use sqlite_items::Items;
 use std::alloc::Global;
 use svr_frame::Frame;
@@ -41,7 +41,7 @@ fn framed(
         random_set(alloc, props, &call.list, world, object),
     );
     let items = active_items(alloc, blocks, in_line, world, object);
-    let copies = both(copy_class(alloc, class), copy_enums(alloc, kinds));
+    let copies = both(copy_class(alloc, class), copy_list(alloc, kinds));
     let ((state, random), (items, (class, enums))) = both(numbers, both(items, copies))?;
     let free_size = Items::new(alloc);
     Ok(Frame {

@@ -11,6 +11,8 @@ ghost use Rattle.svr_world.specs.Fits.{IsShort};
 ghost use Rattle.svr_frame.specs.Making as spec;
 ghost use Rattle.svr_frame_of.specs.Callable.{state_of};
 
+use crate::held::{beside, both};
+use crate::parts::{copy_list, copy_numbers};
 use sqlite_items::Items;
 use std::alloc::Global;
 use std::collections::HashSet;
@@ -19,16 +21,6 @@ use svr_flat::copy_item;
 use svr_operator::Rand;
 use svr_typed::{CallList, NoMemory, Prop, TBlock, TItem};
 use svr_world::World;
-
-fn copy_lists(alloc: Global, lists: &[Items<u64>]) -> Result<Items<Items<u64>>, NoMemory>
-    ensures { IfOk result (λ copies. copies ≡ lists.now) }
-{
-    let mut copies = Items::new(alloc);
-    for list in lists {
-        copies.push(Items::from_slice(alloc, list.as_slice())?)?;
-    }
-    Ok(copies)
-}
 
 fn lengths(alloc: Global, lists: &[Items<u64>]) -> Result<Items<u32>, NoMemory>
     requires { All IsShort lists.now }
@@ -46,9 +38,9 @@ pub(crate) fn state_of(alloc: Global, world: &World, object: u32) -> Result<Assi
     ensures { IfOk result (λ state. state ≡ state_of world.now object) }
 {
     let lists = world.values(object);
-    let values = copy_lists(alloc, lists)?;
-    let sizes = lengths(alloc, lists)?;
-    let script = Items::from_slice(alloc, world.script())?;
+    let numbers = both(copy_list(alloc, lists), lengths(alloc, lists));
+    let script = copy_numbers(alloc, world.script());
+    let ((values, sizes), script) = both(numbers, script)?;
     Ok(Assign {
         values,
         sizes,
@@ -161,6 +153,16 @@ fn append(alloc: Global, items: &[TItem], out: &mut Items<TItem>) -> Result<(), 
     Ok(())
 }
 
+/// The list with copies of these items behind it.
+fn appended(alloc: Global, list: Items<TItem>, items: &[TItem]) -> Result<Items<TItem>, NoMemory>
+    ensures { IfOk result (λ longer. longer ≡ list ++ items.now) }
+{
+    let mut list = list;
+    let made = append(alloc, items, &mut list);
+    let (longer, _) = beside(list, made)?;
+    Ok(longer)
+}
+
 /// The items of the blocks that are switched on, and then those of the call (IEEE 1800-2017, 18.7 and 18.9).
 pub(crate) fn active_items(
     alloc: Global,
@@ -175,9 +177,9 @@ pub(crate) fn active_items(
     let mut active = Items::new(alloc);
     for (place, block) in blocks.iter().enumerate() {
         if world.block_mode(object, place as u32) {
-            append(alloc, block.items.as_slice(), &mut active)?;
+            active = appended(alloc, active, block.items.as_slice())?;
         }
     }
-    append(alloc, in_line, &mut active)?;
-    Ok(active)
+    let whole = appended(alloc, active, in_line)?;
+    Ok(whole)
 }

@@ -2,10 +2,42 @@
 
 ghost use Rattle.std.specs.Prelude.{◌≡◌, IfOk};
 
+use crate::held::both;
 use sqlite_items::Items;
 use std::alloc::Global;
 use svr_flat::copy_items;
 use svr_typed::{EnumMember, EnumType, FlatClass, NoMemory, Prop, TBlock, Text};
+
+/// What can be copied where there is memory.
+pub(crate) trait Copied: Sized {
+    fn copy(&self, alloc: Global) -> Result<Self, NoMemory>
+        ensures { IfOk result (λ copy. copy ≡ self.now) };
+}
+
+/// A copy of a list.
+pub(crate) fn copy_list<T: Copied + Drop>(alloc: Global, items: &[T]) -> Result<Items<T>, NoMemory>
+    ensures { IfOk result (λ copies. copies ≡ items.now) }
+{
+    let mut copies = Items::new(alloc);
+    for item in items {
+        copies.push(item.copy(alloc)?)?;
+    }
+    Ok(copies)
+}
+
+/// A copy of a list of numbers.
+pub(crate) fn copy_numbers(alloc: Global, numbers: &[u64]) -> Result<Items<u64>, NoMemory>
+    ensures { IfOk result (λ copy. copy ≡ numbers.now) }
+{
+    let copy = Items::from_slice(alloc, numbers)?;
+    Ok(copy)
+}
+
+impl Copied for Items<u64> {
+    fn copy(&self, alloc: Global) -> Result<Items<u64>, NoMemory> {
+        copy_numbers(alloc, self.as_slice())
+    }
+}
 
 fn copy_text(alloc: Global, text: &Text) -> Result<Text, NoMemory>
     ensures { IfOk result (λ copy. copy ≡ text.now) }
@@ -14,96 +46,57 @@ fn copy_text(alloc: Global, text: &Text) -> Result<Text, NoMemory>
     Ok(Text::from_vec(bytes))
 }
 
-fn copy_prop(alloc: Global, prop: &Prop) -> Result<Prop, NoMemory>
-    ensures { IfOk result (λ copy. copy ≡ prop.now) }
-{
-    let name = copy_text(alloc, &prop.name)?;
-    Ok(Prop {
-        name,
-        kind: prop.kind,
-        rand: prop.rand,
-        array: prop.array,
-        first: prop.first,
-        low: prop.low,
-        can: prop.can,
-        inner: prop.inner,
-    })
-}
-
-fn copy_props(alloc: Global, props: &[Prop]) -> Result<Items<Prop>, NoMemory>
-    ensures { IfOk result (λ copies. copies ≡ props.now) }
-{
-    let mut copies = Items::new(alloc);
-    for prop in props {
-        copies.push(copy_prop(alloc, prop)?)?;
+impl Copied for Prop {
+    fn copy(&self, alloc: Global) -> Result<Prop, NoMemory> {
+        let name = copy_text(alloc, &self.name)?;
+        Ok(Prop {
+            name,
+            kind: self.kind,
+            rand: self.rand,
+            array: self.array,
+            first: self.first,
+            low: self.low,
+            can: self.can,
+            inner: self.inner,
+        })
     }
-    Ok(copies)
 }
 
-fn copy_block(alloc: Global, block: &TBlock) -> Result<TBlock, NoMemory>
-    ensures { IfOk result (λ copy. copy ≡ block.now) }
-{
-    let name = copy_text(alloc, &block.name)?;
-    let items = copy_items(alloc, block.items.as_slice())?;
-    Ok(TBlock { name, items })
-}
-
-fn copy_blocks(alloc: Global, blocks: &[TBlock]) -> Result<Items<TBlock>, NoMemory>
-    ensures { IfOk result (λ copies. copies ≡ blocks.now) }
-{
-    let mut copies = Items::new(alloc);
-    for block in blocks {
-        copies.push(copy_block(alloc, block)?)?;
+impl Copied for TBlock {
+    fn copy(&self, alloc: Global) -> Result<TBlock, NoMemory> {
+        let name = copy_text(alloc, &self.name);
+        let items = copy_items(alloc, self.items.as_slice());
+        let (name, items) = both(name, items)?;
+        Ok(TBlock { name, items })
     }
-    Ok(copies)
 }
 
 /// A copy of a class with what it inherits.
 pub(crate) fn copy_class(alloc: Global, class: &FlatClass) -> Result<FlatClass, NoMemory>
     ensures { IfOk result (λ copy. copy ≡ class.now) }
 {
-    let props = copy_props(alloc, class.props.as_slice())?;
-    let blocks = copy_blocks(alloc, class.blocks.as_slice())?;
+    let props = copy_list(alloc, class.props.as_slice());
+    let blocks = copy_list(alloc, class.blocks.as_slice());
+    let (props, blocks) = both(props, blocks)?;
     Ok(FlatClass { props, blocks })
 }
 
-fn copy_member(alloc: Global, member: &EnumMember) -> Result<EnumMember, NoMemory>
-    ensures { IfOk result (λ copy. copy ≡ member.now) }
-{
-    let name = copy_text(alloc, &member.name)?;
-    Ok(EnumMember {
-        name,
-        value: member.value,
-    })
-}
-
-fn copy_members(alloc: Global, members: &[EnumMember]) -> Result<Items<EnumMember>, NoMemory>
-    ensures { IfOk result (λ copies. copies ≡ members.now) }
-{
-    let mut copies = Items::new(alloc);
-    for member in members {
-        copies.push(copy_member(alloc, member)?)?;
+impl Copied for EnumMember {
+    fn copy(&self, alloc: Global) -> Result<EnumMember, NoMemory> {
+        let name = copy_text(alloc, &self.name)?;
+        Ok(EnumMember {
+            name,
+            value: self.value,
+        })
     }
-    Ok(copies)
 }
 
-fn copy_enum(alloc: Global, kind: &EnumType) -> Result<EnumType, NoMemory>
-    ensures { IfOk result (λ copy. copy ≡ kind.now) }
-{
-    let members = copy_members(alloc, kind.members.as_slice())?;
-    Ok(EnumType {
-        base: kind.base,
-        members,
-    })
-}
-
-/// Copies of enums.
-pub(crate) fn copy_enums(alloc: Global, kinds: &[EnumType]) -> Result<Items<EnumType>, NoMemory>
-    ensures { IfOk result (λ copies. copies ≡ kinds.now) }
-{
-    let mut copies = Items::new(alloc);
-    for kind in kinds {
-        copies.push(copy_enum(alloc, kind)?)?;
+impl Copied for EnumType {
+    fn copy(&self, alloc: Global) -> Result<EnumType, NoMemory> {
+        let members = copy_list(alloc, self.members.as_slice())?;
+        Ok(EnumType {
+            base: self.base,
+            members,
+        })
     }
-    Ok(copies)
 }

@@ -13,7 +13,7 @@ use svr_frame::{Frame, Part, Sought, finds, finds_in_members, finds_size};
 use svr_typed::{TDistItem, TExpr};
 
 /// What is mentioned that decides whether an item counts in a phase: something that it has to mention there, and something that it may not.
-#[derive(Clone, Copy, PartialEq, Eq)]
+#[derive(Clone, Copy)]
 pub(crate) struct Mentions {
     pub(crate) wanted: bool,
     pub(crate) barred: bool,

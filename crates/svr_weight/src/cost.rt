@@ -185,6 +185,13 @@ fn cell_cost(
     }
 }
 
+/// So much for each element of an array.
+fn for_each_element(prop: u32, each: u128, sizes: &[u32]) -> u128
+    ensures { result ≡ capped (slice_index sizes.now prop * each) }
+{
+    times(u128::from(size_at(sizes, prop)), each)
+}
+
 /// A step of an array reduction: its operator and its body.
 #[cycle(cost)]
 fn step_cost(op: Fold, body: &TExpr, frame: &Frame, part: Part, sizes: &[u32]) -> u128
@@ -199,13 +206,12 @@ fn step_cost(op: Fold, body: &TExpr, frame: &Frame, part: Part, sizes: &[u32]) -
 
 /// An array reduction (IEEE 1800-2017, 7.12.3): a step for each element.
 #[cycle(cost)]
-#[tactic(auto, using(crate::proofs::Caps::mul_capped))]
 fn reduce_cost(prop: u32, op: Fold, body: &TExpr, frame: &Frame, part: Part, sizes: &[u32]) -> u128
     requires { IsTyped (expr_term body.now) }
     ensures { result ≡ capped (slice_index sizes.now prop * spec.step_cost (frame_term frame.now) part sizes.now op (expr_term body.now)) }
 {
     let each = step_cost(op, body, frame, part, sizes);
-    times(u128::from(size_at(sizes, prop)), each)
+    for_each_element(prop, each, sizes)
 }
 
 /// A bit-select (IEEE 1800-2017, 11.5.1). At a size that the phase looks for it is a shift.

@@ -55,7 +55,6 @@ fn turns(size: u32, inner: u32, names: u8) -> u128
 
 /// An item. A loop weighs its size times its body (IEEE 1800-2017, 18.5.8.1); `disable soft` and `solve` weigh nothing.
 #[cycle(items)]
-#[tactic(auto, using(crate::proofs::Caps::mul_capped))]
 fn item_weight(item: &TItem, around: Around, frame: &Frame, part: Part, sizes: &[u32]) -> u128
     requires { ItemIsTyped (item_term item.now) }
     ensures { result ≡ capped (spec.item_weight (frame_term frame.now) part sizes.now around (item_term item.now)) }

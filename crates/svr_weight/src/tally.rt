@@ -15,7 +15,7 @@ use svr_frame::{Frame, Part, size_at};
 use svr_typed::TExpr;
 
 /// A member: what it mentions, how many it stands for, and what it weighs alone.
-#[derive(Clone, Copy, PartialEq, Eq)]
+#[derive(Clone, Copy)]
 pub(crate) struct Member {
     pub(crate) mentions: Mentions,
     pub(crate) count: u32,

@@ -1,14 +1,18 @@
-use Rattle.std.proofs.Common.{◌≡◌, ◌+◌, ◌*◌, ◌||◌, max, refl, sym, ap, ◌∙◌}
+use Rattle.std.proofs.Common.{◌≡◌, ◌+◌, ◌*◌, ◌||◌, max, List, refl, sym, ap, ◌∙◌, arith}
 use Rattle.std.specs.Prelude.{if◌then◌else◌, slice_index}
 use Rattle.svr_eval.specs.declared.operator.UnaryKind.TheVariants.{Changed, Reduced}
 use Rattle.svr_eval.specs.declared.operator.BinaryKind.TheVariants.{InContext, Shifted, ByPair, Logical}
-use Rattle.svr_typed.specs.ExprTerm.{ExprTerm, expr_term, expr_terms, range_terms}
+use Rattle.svr_typed.specs.declared.expr.TExpr.{TExpr}
+use Rattle.svr_typed.specs.declared.expr.TRange.{TRange}
+use Rattle.svr_typed.specs.ExprTerm.{ExprTerm, expr_term, expr_terms, range_term, range_terms}
 use Rattle.svr_eval.specs.Value.{size_of}
 use Rattle.svr_frame.specs.Frame.{frame_term}
 use Rattle.svr_frame.specs.Weight.{capped, arithmetic_cost, change_cost, fold_cost}
 use Rattle.svr_weight.specs.Costs as spec
 use Rattle.svr_weight.specs.Costs.{cost, own_cost}
-use Rattle.svr_weight.proofs.Caps.{sum_from, exact_from, times_from, regrouped, if_so, if_not, own_width}
+use Rattle.svr_weight.proofs.Caps.{sum_from, exact_from, times_from, regrouped, if_so, if_not, own_width, turn_added}
+use Rattle.svr_weight.proofs.Counted.{typed_from}
+use Rattle.svr_weight.proofs.Turns.{ranges_from}
 use Rattle.svr_weight.proofs.Operands.{unary_is, binary_is}
 use Rattle.svr_weight.proofs.cost.+cost.Goals as goal
 use Rattle.svr_weight.proofs.cost.+cost.Goals.{bit_cost-then-holds_size, bit_cost-else-holds_size}
@@ -178,7 +182,7 @@ reduce_cost-returns t c =
     let part = c.args.part in
     let ns = c.args.sizes.now in
     let body = expr_term c.args.body.now in
-    times_from _ (slice_index ns c.args.prop) _ (spec.step_cost f part ns c.args.op body) _ c.times.ensures (c.from.ensures ∙ c.size_at.ensures) c.step_cost-each.ensures
+    times_from _ (slice_index ns c.args.prop) _ (spec.step_cost f part ns c.args.op body) _ c.for_each_element.ensures refl c.step_cost-each.ensures
 
 pub step_cost-returns : goal.step_cost-returns
 step_cost-returns t c =
@@ -219,3 +223,23 @@ value_cost-returns t c =
     let n = max c.args.width (size_of e) in
     let common : c.max-common.result ≡ n = c.max-common.ensures ∙ ap (max c.args.width) (sym (own_width c.args.e.now c.requires.typed)) in
     exact_from _ n _ (cost f part ns e n) _ c.add.ensures (c.from.ensures ∙ common) (c.cost.ensures ∙ ap (λ m. capped (cost f part ns e m)) common)
+
+pub exprs_cost-loop-e-preserved : goal.exprs_cost-loop-e-preserved
+exprs_cost-loop-e-preserved t c =
+    let f = frame_term c.args.frame.now in
+    record {
+      typed = typed_from c.args.parts.now (c.loop-e.e-index + 1) c.requires;
+      small = omega (arith, c.add-sum.ensures);
+      told = turn_added (λ (es : List TExpr). spec.exprs_cost f c.args.part c.args.sizes.now (expr_terms es)) (own_cost f c.args.part c.args.sizes.now (expr_term c.e-item.result))
+          c.args.parts.now c.loop-e.e-index c.e-item.result c.loop-e.sum _ _ c.loop-e-test.true c.e-item.is refl c.add-sum.ensures c.own_cost.ensures c.loop-e.invariant.told;
+    }
+
+pub ranges_cost-loop-range-preserved : goal.ranges_cost-loop-range-preserved
+ranges_cost-loop-range-preserved t c =
+    let f = frame_term c.args.frame.now in
+    record {
+      typed = ranges_from c.args.set.now (c.loop-range.range-index + 1) c.requires.typed;
+      small = omega (arith, c.add-sum.ensures);
+      told = turn_added (λ (rs : List TRange). spec.ranges_cost f c.args.part c.args.sizes.now c.args.width (range_terms rs)) (spec.range_cost f c.args.part c.args.sizes.now c.args.width (range_term c.range-item.result))
+          c.args.set.now c.loop-range.range-index c.range-item.result c.loop-range.sum _ _ c.loop-range-test.true c.range-item.is refl c.add-sum.ensures c.range_cost.ensures c.loop-range.invariant.told;
+    }
