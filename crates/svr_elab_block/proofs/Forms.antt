@@ -1,10 +1,11 @@
 -- What the pass needs of each form, by its parts.
-use Rattle.std.proofs.Common.{◌≡◌, ℕ, Bool, true, false, if◌then◌else◌, List, [], ◌∷◌, ◌++◌, Option, refl, sym, ap, ◌∙◌}
+use Rattle.std.proofs.Common.{◌≡◌, ◌<◌, ◌+◌, ℕ, Bool, true, false, if◌then◌else◌, List, [], ◌∷◌, ◌++◌, map, length, drop, get_or, Option, None, Some, option_map, Result, Ok, Err, IfOk, refl, sym, ap, ◌∙◌}
+use Rattle.std.proofs.lemmas.List.{map-append, at_drop_more}
 use Rattle.std.specs.List.{list_any, slice_get}
 use Rattle.svr_typed.specs.ClassTerm.{BlockTerm}
 use Rattle.svr_tree.specs.ItemTree.{ItemTrees}
 use Rattle.svr_tree.specs.DeclTree as decl
-use Rattle.svr_tree.specs.DeclTree.{BlockTree, ClassTree}
+use Rattle.svr_tree.specs.DeclTree.{BlockTree, ClassTree, ClassItemTree}
 use Rattle.svr_elab_fault.specs.declared.Fault.{Fault}
 use Rattle.svr_elab_fault.specs.Refusals.{first_one, earlier}
 use Rattle.svr_elab_names.specs.declared.Region.TheVariants as region
@@ -16,6 +17,26 @@ use Rattle.svr_elab_item.specs.declared.Around.{Around}
 use Rattle.svr_elab_item.specs.Items.{ItemsElab, items, no_items, outside}
 use Rattle.svr_elab_block.specs.Blocks as spec
 use Rattle.svr_elab_block.specs.Blocks.{BodyElab, BodiesElab}
+
+-- what is made is so by what is told of it
+pub told : {A E : Type 0} {P Q : A → Type 0} (r : Result A E) → IfOk r P → ((x : A) → P x → Q x) → IfOk r Q
+told (Ok x) p f = f x p
+told (Err e) p f = tt
+
+-- one more behind a list, seen as what the elements stand for
+pub more_seen : {A B : Type 0} (f : A → B) (xs : Option (List A)) (x : Option A) → option_map (map f) (and_more xs x) ≡ and_more (option_map (map f) xs) (option_map f x)
+more_seen f None x = refl
+more_seen f (Some xs) None = refl
+more_seen f (Some xs) (Some x) = ap Some (map-append f xs (x ∷ []))
+
+-- the first of what is left of a list
+pub rest_is : {A B : Type 0} (f : A → B) (xs : List A) (i : ℕ) (x : A) → i < length xs → x ≡ get_or xs i x → map f (drop i xs) ≡ f x ∷ map f (drop (i + 1) xs)
+rest_is {A = A} f xs i x h e = at_drop_more (map f) xs i x h ∙ ap (λ (x : A). f x ∷ map f (drop (i + 1) xs)) (sym e)
+
+-- one more item of a class
+pub items_more : (n : Space) (b d whole : BodyElab (Option Fault)) (t : ClassItemTree) (ts : List ClassItemTree)
+    → d ≡ spec.body_item first_one n b t → spec.body_items first_one n b (t ∷ ts) ≡ whole → spec.body_items first_one n d ts ≡ whole
+items_more n b d whole t ts e k = ap (λ (d : BodyElab (Option Fault)). spec.body_items first_one n d ts) e ∙ k
 
 abbrev chosen : Space → BodyElab (Option Fault) → BlockTree → ItemsElab (Option Fault) → Bool → BodyElab (Option Fault)
 chosen n b k e there = if there then spec.with_faults first_one b e.faults else spec.with_block first_one b (n.text k.name) (spec.orders n k.name b.orders k.items) e

@@ -1,8 +1,8 @@
 // The bodies of classes, in one pass.
 
-ghost use Rattle.std.specs.Prelude.{◌≡◌, ◌<◌, ◌≤◌, ◌^◌, length, map, option_map, IfOk};
+ghost use Rattle.std.specs.Prelude.{◌≡◌, ◌<◌, ◌≤◌, ◌^◌, length, map, option_map, IfOk, OnOk};
 ghost use Rattle.svr_token.specs.Names.{names_of};
-ghost use Rattle.svr_typed.specs.ClassTerm.{block_term, block_terms};
+ghost use Rattle.svr_typed.specs.ClassTerm.{block_term};
 ghost use Rattle.svr_tree.specs.ItemTree.{item_trees};
 ghost use Rattle.svr_tree.specs.DeclTree as tree;
 ghost use Rattle.svr_tree.specs.DeclTree.{declarator_tree, block_tree, class_item_tree, class_tree};
@@ -35,19 +35,18 @@ use svr_token::Names;
 use svr_tree::{ClassDecl, ClassItem, ConstraintBlock, Declarator};
 use svr_typed::{NoMemory, TBlock, TItem, Text};
 
-/// These names with those of the properties of one declaration.
+/// The names of the properties of one more declaration.
 fn declare<'a>(
-    own: IndexSet<&'a [u8]>,
+    own: &mut IndexSet<&'a [u8]>,
     decls: &[Declarator],
     names: Names<'a>,
-) -> Result<IndexSet<&'a [u8]>, NoMemory>
-    ensures { IfOk result (λ s. map bytes_of s.keys ≡ spec.and_declared (names_of names.entry) (map bytes_of own.entry.keys) (map declarator_tree decls.now)) }
+) -> Result<(), NoMemory>
+    ensures { OnOk result (map bytes_of own.new.keys ≡ spec.and_declared (names_of names.entry) (map bytes_of own.old.keys) (map declarator_tree decls.now)) }
 {
-    let mut own = own;
     for each in decls {
-        own = with_name(own, names.name(each.name))?;
+        with_name(own, names.name(each.name))?;
     }
-    Ok(own)
+    Ok(())
 }
 
 /// A block of this name, where its items are known.
@@ -65,29 +64,30 @@ fn typed(
     Ok(Some(TBlock::new(name, items)))
 }
 
-fn and_typed(
-    blocks: Option<Items<TBlock>>,
-    block: Option<TBlock>,
-) -> Result<Option<Items<TBlock>>, NoMemory>
-    ensures { IfOk result (λ bs. option_map (map block_term) bs ≡ and_more (option_map (map block_term) blocks) (option_map block_term block)) }
+/// One more value behind a list, where both are known.
+fn and_more<T: Drop>(list: &mut Option<Items<T>>, value: Option<T>) -> Result<(), NoMemory>
+    ensures { OnOk result (list.new ≡ and_more list.old value) }
 {
-    match blocks.zip(block) {
-        None => Ok(None),
-        Some((blocks, block)) => Ok(Some(pushed(blocks, block)?)),
+    match list.take().zip(value) {
+        None => Ok(()),
+        Some((items, value)) => {
+            *list = Some(pushed(items, value)?);
+            Ok(())
+        }
     }
 }
 
-/// These blocks with one of this name, where all are known.
+/// One more block, of this name, where all are known.
 fn with_typed(
     alloc: Global,
-    blocks: Option<Items<TBlock>>,
+    blocks: &mut Option<Items<TBlock>>,
     name: &[u8],
     items: Option<Items<TItem>>,
-) -> Result<Option<Items<TBlock>>, NoMemory>
-    ensures { IfOk result (λ bs. option_map (map block_term) bs ≡ and_more (option_map (map block_term) blocks) (spec.block_term name.now (option_map (map item_term) items))) }
+) -> Result<(), NoMemory>
+    ensures { OnOk result (option_map (map block_term) blocks.new ≡ and_more (option_map (map block_term) blocks.old) (spec.block_term name.now (option_map (map item_term) items))) }
 {
-    let (blocks, block) = beside(blocks, typed(alloc, name, items))?;
-    Ok(and_typed(blocks, block)?)
+    let block = typed(alloc, name, items)?;
+    and_more(blocks, block)
 }
 
 /// A block whose name an earlier declaration has: what it holds is refused all the same.
@@ -110,24 +110,23 @@ fn with_block<'a>(
     requires loops { length names.now.loops.now < 2 ^ 32 }
     ensures { IfOk result (λ b. body_part b ≡ spec.with_block first_one (body_part part.entry) (names_of names.now.names block.now.name) (spec.orders (space_of names.now) block.now.name part.entry.orders (item_trees block.now.items)) (items_part items)) }
 {
+    let fault = earlier(part.fault, items.fault);
+    let mut part = BodyPart { fault, ..part };
     let name = names.names.name(block.name);
-    let known = both(with_name(part.own, name), with_name(part.named, name));
-    let blocks = with_typed(alloc, part.blocks, name, items.trees);
+    let own = with_name(&mut part.own, name);
+    let named = with_name(&mut part.named, name);
+    let declared = both(own, named);
+    let blocks = with_typed(alloc, &mut part.blocks, name, items.trees);
     let orders = and_orders(
         alloc,
-        part.orders,
+        &mut part.orders,
         block.items.as_slice(),
         block.name,
         names,
     );
-    let ((own, named), (blocks, orders)) = both(known, both(blocks, orders))?;
-    Ok(BodyPart {
-        own,
-        named,
-        blocks,
-        orders,
-        fault: earlier(part.fault, items.fault),
-    })
+    let known = both(blocks, orders);
+    let (part, _done) = beside(part, both(declared, known))?;
+    Ok(part)
 }
 
 /// One more block, where no earlier declaration has its name.
@@ -147,10 +146,9 @@ fn and_block<'a>(
     let items = items(alloc, block.items.as_slice(), names, Around::outside());
     let (part, items) = beside(part, items)?;
     if is_among(&part.own, names.names.name(block.name)) {
-        Ok(with_fault(part, items.fault))
-    } else {
-        Ok(with_block(alloc, part, block, items, names)?)
+        return Ok(with_fault(part, items.fault));
     }
+    with_block(alloc, part, block, items, names)
 }
 
 /// With the names of one more declaration of properties.
@@ -161,8 +159,10 @@ fn and_names<'a>(
 ) -> Result<BodyPart<'a>, NoMemory>
     ensures { IfOk result (λ b. body_part b ≡ spec.with_names first_one (body_part part.entry) (spec.and_declared (names_of names.entry) (map bytes_of part.entry.own.keys) (map declarator_tree decls.now))) }
 {
-    let own = declare(part.own, decls, names)?;
-    Ok(BodyPart { own, ..part })
+    let mut part = part;
+    let declared = declare(&mut part.own, decls, names);
+    let (part, _done) = beside(part, declared)?;
+    Ok(part)
 }
 
 fn and_item<'a>(
@@ -202,18 +202,6 @@ fn body<'a>(
     Ok(part)
 }
 
-fn and_blocks(
-    all: Option<Items<Items<TBlock>>>,
-    blocks: Option<Items<TBlock>>,
-) -> Result<Option<Items<Items<TBlock>>>, NoMemory>
-    ensures { IfOk result (λ bs. option_map (map block_terms) bs ≡ and_more (option_map (map block_terms) all) (option_map block_terms blocks)) }
-{
-    match all.zip(blocks) {
-        None => Ok(None),
-        Some((all, blocks)) => Ok(Some(pushed(all, blocks)?)),
-    }
-}
-
 /// With the blocks of one more class, and what it inherits.
 fn and_body(
     alloc: Global,
@@ -224,15 +212,18 @@ fn and_body(
     ensures { IfOk result (λ s. bodies_part s ≡ spec.and_body first_one (bodies_part bodies) inherited (body_part part.entry)) }
 {
     drop((part.own, part.named));
-    let blocks = and_blocks(bodies.blocks, part.blocks);
-    let known = both(blocks, with_own(alloc, inherited, part.orders));
-    let (orders, (blocks, (all, cycle))) = beside(bodies.orders, known)?;
-    let (blocks, orders) = beside(blocks, pushed(orders, all))?;
-    Ok(BodiesPart {
-        blocks,
-        orders,
-        fault: earlier(bodies.fault, earlier(part.fault, cycle)),
-    })
+    let mut bodies = bodies;
+    let blocks = and_more(&mut bodies.blocks, part.blocks);
+    let own = with_own(alloc, inherited, part.orders);
+    let (mut bodies, (_done, (all, cycle))) = beside(bodies, both(blocks, own))?;
+    let fault = earlier(bodies.fault, earlier(part.fault, cycle));
+    match bodies.orders.push(all) {
+        Ok(()) => Ok(BodiesPart { fault, ..bodies }),
+        Err(_) => {
+            drop(bodies);
+            Err(NoMemory)
+        }
+    }
 }
 
 /// With the body of the class of this number.
@@ -261,7 +252,7 @@ fn and_class(
         names.names,
     );
     let (bodies, (part, from_base)) = beside(bodies, beside(part, from_base))?;
-    Ok(and_body(alloc, bodies, from_base, part)?)
+    and_body(alloc, bodies, from_base, part)
 }
 
 /// What is known of the blocks of all classes, with their first refusal. `classes`: their declarations in order, whose numbers begin with 0. `names`: what names stand for outside of them.

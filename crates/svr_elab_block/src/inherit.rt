@@ -1,6 +1,6 @@
 // What a class orders by the blocks that it inherits.
 
-ghost use Rattle.std.specs.Prelude.{◌≡◌, ◌++◌, [], map, IfOk, slice_get};
+ghost use Rattle.std.specs.Prelude.{◌≡◌, ◌++◌, [], map, IfOk, OnOk, slice_get};
 ghost use Rattle.std.specs.List.{list_any};
 ghost use Rattle.svr_token.specs.Names.{names_of};
 ghost use Rattle.svr_elab_fault.specs.Refusals.{first_one};
@@ -13,6 +13,7 @@ use crate::solve::and_order;
 use indexmap::IndexSet;
 use sqlite_items::Items;
 use std::alloc::Global;
+use svr_elab_expr::beside;
 use svr_elab_fault::Fault;
 use svr_elab_names::ClassNames;
 use svr_elab_order::{Order, cycle_fault};
@@ -27,16 +28,12 @@ pub(crate) fn is_among(names: &IndexSet<&[u8]>, name: &[u8]) -> bool
     names.contains(name)
 }
 
-/// These names with one more, unless it is there.
-pub(crate) fn with_name<'a>(
-    names: IndexSet<&'a [u8]>,
-    name: &'a [u8],
-) -> Result<IndexSet<&'a [u8]>, NoMemory>
-    ensures { IfOk result (λ s. map bytes_of s.keys ≡ spec.and_name (map bytes_of names.entry.keys) name.now) }
+/// One more name, unless it is there.
+pub(crate) fn with_name<'a>(names: &mut IndexSet<&'a [u8]>, name: &'a [u8]) -> Result<(), NoMemory>
+    ensures { OnOk result (map bytes_of names.new.keys ≡ spec.and_name (map bytes_of names.old.keys) name.now) }
 {
-    let mut names = names;
     match names.insert(name) {
-        Ok(_) => Ok(names),
+        Ok(_) => Ok(()),
         Err(_) => Err(NoMemory),
     }
 }
@@ -52,18 +49,18 @@ fn copied(alloc: Global, order: &Order) -> Result<Order, NoMemory>
     })
 }
 
-/// With one more item, unless the class puts a block of its own in the place of its block.
+/// One more item, unless the class puts a block of its own in the place of its block.
 fn and_kept(
     alloc: Global,
-    orders: Items<Order>,
+    orders: &mut Items<Order>,
     order: &Order,
     own: &IndexSet<&[u8]>,
     names: Names<'_>,
-) -> Result<Items<Order>, NoMemory>
-    ensures { IfOk result (λ os. os ≡ spec.and_kept (names_of names.entry) (map bytes_of own.now.keys) orders order.now) }
+) -> Result<(), NoMemory>
+    ensures { OnOk result (orders.new ≡ spec.and_kept (names_of names.entry) (map bytes_of own.now.keys) orders.old order.now) }
 {
     if is_among(own, names.name(order.block)) {
-        return Ok(orders);
+        return Ok(());
     }
     and_order(orders, Some(copied(alloc, order)?))
 }
@@ -79,7 +76,7 @@ fn without(
 {
     let mut orders = Items::new(alloc);
     for order in base {
-        orders = and_kept(alloc, orders, order, own, names)?;
+        and_kept(alloc, &mut orders, order, own, names)?;
     }
     Ok(orders)
 }
@@ -128,7 +125,6 @@ pub(crate) fn inherited(
 }
 
 /// What a class orders in all, and the refusal of the first of its own items with which it orders a property before itself.
-#[tactic(auto, using(crate::proofs::Named::own_cycles))]
 pub(crate) fn with_own(
     alloc: Global,
     inherited: Items<Order>,
@@ -140,6 +136,6 @@ pub(crate) fn with_own(
     let given = inherited.len();
     let mut orders = inherited;
     orders.append(own)?;
-    let fault = cycle_fault(alloc, orders.as_slice(), given)?;
-    Ok((orders, fault))
+    let fault = cycle_fault(alloc, orders.as_slice(), given);
+    beside(orders, fault)
 }

@@ -72,5 +72,5 @@ pub fn in_line(
     ensures { IfOk result (λ p. items_part p ≡ spec.in_line first_one (space_of names.now) class (item_trees set.now)) }
 {
     let inside = in_class(names, Region::InLine, class);
-    Ok(items(alloc, set, &inside, Around::outside())?)
+    items(alloc, set, &inside, Around::outside())
 }

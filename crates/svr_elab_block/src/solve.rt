@@ -1,6 +1,6 @@
 // What the `solve` items of a block order (IEEE 1800-2017, 18.5.10).
 
-ghost use Rattle.std.specs.Prelude.{◌≡◌, ◌<◌, ◌^◌, [], length, IfOk};
+ghost use Rattle.std.specs.Prelude.{◌≡◌, ◌<◌, ◌^◌, [], length, IfOk, OnOk};
 ghost use Rattle.svr_tree.specs.ExprTree.{expr_tree, expr_trees};
 ghost use Rattle.svr_tree.specs.ItemTree.{item_tree, item_trees};
 ghost use Rattle.svr_elab_names.specs.Tables.{space_of};
@@ -8,6 +8,8 @@ ghost use Rattle.svr_elab_block.specs.Blocks as spec;
 
 use sqlite_items::Items;
 use std::alloc::Global;
+use svr_elab_expr::both;
+use svr_elab_form::pushed;
 use svr_elab_names::{Meaning, NameSpace};
 use svr_elab_order::Order;
 use svr_tree::{Expr, Item};
@@ -55,11 +57,7 @@ fn and_number(numbers: Items<u32>, number: Option<u32>) -> Result<Items<u32>, No
 {
     match number {
         None => Ok(numbers),
-        Some(number) => {
-            let mut numbers = numbers;
-            numbers.push(number)?;
-            Ok(numbers)
-        }
+        Some(number) => pushed(numbers, number),
     }
 }
 
@@ -88,51 +86,51 @@ fn order_of(
     ensures { IfOk result (λ o. o ≡ spec.order_of (space_of names.now) block (item_tree item.now)) }
 {
     match item {
-        Item::Solve { at, first, later } => Ok(Some(Order {
-            block,
-            at: *at,
-            first: numbers(alloc, first.as_slice(), names)?,
-            later: numbers(alloc, later.as_slice(), names)?,
-        })),
+        Item::Solve { at, first, later } => {
+            let first = numbers(alloc, first.as_slice(), names);
+            let later = numbers(alloc, later.as_slice(), names);
+            let (first, later) = both(first, later)?;
+            Ok(Some(Order {
+                block,
+                at: *at,
+                first,
+                later,
+            }))
+        }
         Item::Plain { .. } | Item::Unique { .. } | Item::Implies { .. } => Ok(None),
         Item::Branch { no: None, .. } | Item::Branch { no: Some(_), .. } => Ok(None),
         Item::Foreach { .. } | Item::Disable { .. } => Ok(None),
     }
 }
 
-/// With one more item, where there is one.
-pub(crate) fn and_order(
-    orders: Items<Order>,
-    order: Option<Order>,
-) -> Result<Items<Order>, NoMemory>
-    ensures { IfOk result (λ os. os ≡ spec.and_order orders order) }
+/// One more item, where there is one.
+pub(crate) fn and_order(orders: &mut Items<Order>, order: Option<Order>) -> Result<(), NoMemory>
+    ensures { OnOk result (orders.new ≡ spec.and_order orders.old order) }
 {
     match order {
-        None => Ok(orders),
+        None => Ok(()),
         Some(order) => {
-            let mut orders = orders;
             orders.push(order)?;
-            Ok(orders)
+            Ok(())
         }
     }
 }
 
-/// What the items of a block order, behind what `start` has.
+/// What the items of a block order, behind what there is.
 pub(crate) fn and_orders(
     alloc: Global,
-    start: Items<Order>,
+    orders: &mut Items<Order>,
     items: &[Item],
     block: u32,
     names: &NameSpace<'_, '_>,
-) -> Result<Items<Order>, NoMemory>
+) -> Result<(), NoMemory>
     requires vars { length names.now.vars.now.entries < 2 ^ 32 }
     requires loops { length names.now.loops.now < 2 ^ 32 }
-    ensures { IfOk result (λ os. os ≡ spec.orders (space_of names.now) block start (item_trees items.now)) }
+    ensures { OnOk result (orders.new ≡ spec.orders (space_of names.now) block orders.old (item_trees items.now)) }
 {
-    let mut orders = start;
     for item in items {
         let order = order_of(alloc, item, block, names)?;
-        orders = and_order(orders, order)?;
+        and_order(orders, order)?;
     }
-    Ok(orders)
+    Ok(())
 }

@@ -1,5 +1,5 @@
 -- What is known of a class after some of its items, put together of what is known of its parts.
-use Rattle.std.proofs.Common.{◌≡◌, ℕ, ◌+◌, ◌<◌, min, Bool, true, false, List, [], ◌∷◌, ◌++◌, map, length, get_or, drop, Option, None, refl, sym, ap, ◌∙◌}
+use Rattle.std.proofs.Common.{◌≡◌, ℕ, ◌+◌, ◌<◌, min, Bool, true, false, List, [], ◌∷◌, ◌++◌, map, length, get_or, drop, Option, None, Result, Ok, Err, IfOk, refl, sym, ap, ◌∙◌}
 use Rattle.std.proofs.lemmas.List.{at_drop_more}
 use Rattle.std.specs.List.{list_any}
 use Rattle.svr_operator.specs.declared.Rand.{Rand}
@@ -19,35 +19,39 @@ use Rattle.svr_elab_class.specs.Classes.{Head, ClassElab, behind}
 abbrev Known : Type 0
 Known = ClassElab (Option Fault)
 
+-- what is made is so by what is told of it
+pub told : {A E : Type 0} {P Q : A → Type 0} (r : Result A E) → IfOk r P → ((x : A) → P x → Q x) → IfOk r Q
+told (Ok x) p f = f x p
+told (Err e) p f = tt
+
+-- by four things that are told of it
+pub all_told : {A E : Type 0} {P Q R S Z : A → Type 0} (r : Result A E) → IfOk r P → IfOk r Q → IfOk r R → IfOk r S → ((x : A) → P x → Q x → R x → S x → Z x) → IfOk r Z
+all_told (Ok x) p q r s f = f x p q r s
+all_told (Err e) p q r s f = tt
+
 -- the first of what is left of a list
 pub rest_is : {A B : Type 0} (f : A → B) (xs : List A) (i : ℕ) (x : A) → i < length xs → x ≡ get_or xs i x → map f (drop i xs) ≡ f x ∷ map f (drop (i + 1) xs)
 rest_is {A = A} f xs i x h e = at_drop_more (map f) xs i x h ∙ ap (λ (x : A). f x ∷ map f (drop (i + 1) xs)) (sym e)
 
 -- ---- a property
 
-module _ (h : Head) (c : Known) (name : ℕ) (r : Rand) (u : Used) (first : ℕ) (ff : Option Fault) (d : DimsElab (Option Fault)) where
-  -- its name is declared twice
-  pub property_twice : (q : List ℕ) (twice inherits wide : Bool) (n : ℕ) (kind : Option Vector) (own a b e : Option Fault)
-      → q ≡ h.names.text name → twice ≡ list_any (is_same q) c.own → n ≡ length c.props → inherits ≡ is_name (λ (p : PropName). p.name) q (spec.props_at h.names.classes h.base)
-      → kind ≡ used_kind u → wide ≡ is_wide_cycle h.enums kind
-      → own ≡ property_faults first_one (record { props = n; arrays = c.arrays; inherits = inherits; doubles = twice; wide = wide }) name r u d.dims
-      → a ≡ earlier ff own → b ≡ earlier d.faults a → e ≡ earlier c.faults b → twice ≡ true
-      → (let s : Known = record { props = c.props; arrays = c.arrays; own = c.own; blocks = c.blocks; faults = e } in s) ≡ spec.and_property first_one h c name r u first ff d
-  property_twice q twice inherits wide n kind own a b e is_q is_twice is_n is_inherits is_kind is_wide is_own is_a is_b is_e holds =
-      let t : list_any (is_same (h.names.text name)) c.own ≡ true = sym (ap (λ (q : List ℕ). list_any (is_same q) c.own) is_q) ∙ sym is_twice ∙ holds in
-      rw (is_e, is_b, is_a, is_own, is_wide, is_kind, is_inherits, is_n, is_twice, is_q, t) refl
+-- its name is declared twice
+pub property_twice : (c s : Known) (q : List ℕ) (p : Property) (first : ℕ) (f : Option Fault) → s ≡ spec.and_faults first_one c f → list_any (is_same q) c.own ≡ true → s ≡ spec.with_property first_one c q p first f
+property_twice c s q p first f is_s t = rw (is_s, t) refl
 
-  pub property_more : (q : List ℕ) (twice inherits wide : Bool) (n m number : ℕ) (kind again : Option Vector) (own a b e : Option Fault) (p : Property) (ps : List PropName) (arrays : ℕ) (names : List (List ℕ))
-      → q ≡ h.names.text name → twice ≡ list_any (is_same q) c.own → n ≡ length c.props → inherits ≡ is_name (λ (p : PropName). p.name) q (spec.props_at h.names.classes h.base)
-      → kind ≡ used_kind u → wide ≡ is_wide_cycle h.enums kind
-      → own ≡ property_faults first_one (record { props = n; arrays = c.arrays; inherits = inherits; doubles = twice; wide = wide }) name r u d.dims
-      → a ≡ earlier ff own → b ≡ earlier d.faults a → e ≡ earlier c.faults b → twice ≡ false
-      → m ≡ length c.props → number ≡ min m PROPERTY_LIMIT → again ≡ used_kind u → p ≡ declared_as number h.number r again d.dims
-      → ps ≡ spec.and_prop c.props q p first → arrays ≡ spec.and_array c.arrays d.dims → names ≡ spec.with_name c.own q
-      → (let s : Known = record { props = ps; arrays = arrays; own = names; blocks = c.blocks; faults = e } in s) ≡ spec.and_property first_one h c name r u first ff d
-  property_more q twice inherits wide n m number kind again own a b e p ps arrays names is_q is_twice is_n is_inherits is_kind is_wide is_own is_a is_b is_e holds is_m is_number is_again is_p is_ps is_arrays is_names =
-      let t : list_any (is_same (h.names.text name)) c.own ≡ false = sym (ap (λ (q : List ℕ). list_any (is_same q) c.own) is_q) ∙ sym is_twice ∙ holds in
-      rw (is_e, is_b, is_a, is_own, is_wide, is_kind, is_inherits, is_ps, is_p, is_arrays, is_names, is_number, is_m, is_again, is_n, is_twice, is_q, t) refl
+pub property_more : (c : Known) (q : List ℕ) (p : Property) (first : ℕ) (f e : Option Fault) (ps : List PropName) (arrays : ℕ) (names : List (List ℕ))
+    → ps ≡ spec.and_prop c.props q p first → arrays ≡ spec.and_array c.arrays p.dims → names ≡ spec.with_name c.own q → e ≡ earlier c.faults f → list_any (is_same q) c.own ≡ false
+    → (let s : Known = record { props = ps; arrays = arrays; own = names; blocks = c.blocks; faults = e } in s) ≡ spec.with_property first_one c q p first f
+property_more c q p first f e ps arrays names is_ps is_arrays is_names is_e t = rw (is_e, is_ps, is_arrays, is_names, t) refl
+
+pub and_property_is : (h : Head) (c s : Known) (name : ℕ) (r : Rand) (u : Used) (first : ℕ) (ff : Option Fault) (d : DimsElab (Option Fault)) (q : List ℕ) (twice inherits wide : Bool) (n number : ℕ) (kind : Option Vector) (own a b : Option Fault) (p : Property)
+    → s ≡ spec.with_property first_one c q p first b → q ≡ h.names.text name → twice ≡ list_any (is_same q) c.own → n ≡ length c.props
+    → inherits ≡ is_name (λ (p : PropName). p.name) q (spec.props_at h.names.classes h.base) → kind ≡ used_kind u → wide ≡ is_wide_cycle h.enums kind
+    → own ≡ property_faults first_one (record { props = n; arrays = c.arrays; inherits = inherits; doubles = twice; wide = wide }) name r u d.dims
+    → a ≡ earlier ff own → b ≡ earlier d.faults a → number ≡ min n PROPERTY_LIMIT → p ≡ declared_as number h.number r kind d.dims
+    → s ≡ spec.and_property first_one h c name r u first ff d
+and_property_is h c s name r u first ff d q twice inherits wide n number kind own a b p is_s is_q is_twice is_n is_inherits is_kind is_wide is_own is_a is_b is_number is_p =
+    rw (is_s, is_b, is_a, is_own, is_p, is_number, is_wide, is_kind, is_inherits, is_n, is_twice, is_q) refl
 
 pub declarator_is : (h : Head) (c : Known) (r : Rand) (u : Used) (t : DeclaratorTree) (s : Known) (d : DimsElab (Option Fault)) (ds : List DimensionTree) (m n : Space) (first : ℕ) (f : Option Fault) (kind : Option Vector)
     → s ≡ spec.and_property first_one h c t.name r u first f d → d ≡ dims_of first_one m t.name ds → ds ≡ t.dims → m ≡ behind h c.props → first ≡ first_number first_one n kind t.value
@@ -96,14 +100,3 @@ pub class_is : (cs : List ClassName) (base : Option ℕ) (q : List ℕ) (c : Kno
     → inherited ≡ length (spec.props_at cs base) → blocks ≡ spec.without c.blocks (spec.blocks_at cs base) ++ c.blocks
     → (let k : ClassName = record { name = q; base = base; props = c.props; inherited = inherited; blocks = blocks } in k) ≡ spec.class_name cs base q c
 class_is cs base q c inherited blocks is_inherited is_blocks = rw (is_inherited, is_blocks) refl
-
--- ---- the names of its own properties
-
-pub names_more : (text : ℕ → List ℕ) (ns ms whole : List (List ℕ)) (q : List ℕ) (d : DeclaratorTree) (ds : List DeclaratorTree)
-    → ms ≡ spec.with_name ns q → q ≡ text d.name → spec.declared_names text ns (d ∷ ds) ≡ whole → spec.declared_names text ms ds ≡ whole
-names_more text ns ms whole q d ds e f h =
-    ap (λ (ms : List (List ℕ)). spec.declared_names text ms ds) e ∙ ap (λ (q : List ℕ). spec.declared_names text (spec.with_name ns q) ds) f ∙ h
-
-pub item_names_more : (text : ℕ → List ℕ) (ns ms whole : List (List ℕ)) (t : ClassItemTree) (ts : List ClassItemTree)
-    → ms ≡ spec.item_names text ns t → spec.own_properties text ns (t ∷ ts) ≡ whole → spec.own_properties text ms ts ≡ whole
-item_names_more text ns ms whole t ts e h = ap (λ (ms : List (List ℕ)). spec.own_properties text ms ts) e ∙ h

@@ -165,9 +165,7 @@ fn and_block<'a>(
     if is_among(own, block) {
         return Ok(blocks);
     }
-    let mut blocks = blocks;
-    blocks.push(block)?;
-    Ok(blocks)
+    pushed(blocks, block)
 }
 
 /// The blocks that none of these names replaces.
@@ -208,7 +206,7 @@ fn with_blocks<'a>(first: Items<&'a [u8]>, others: &[&'a [u8]]) -> Result<Items<
 {
     let mut blocks = first;
     for block in others {
-        blocks.push(*block)?;
+        blocks = pushed(blocks, *block)?;
     }
     Ok(blocks)
 }
@@ -223,7 +221,7 @@ fn all_blocks<'a>(
     ensures { IfOk result (λ bs. map bytes_of bs ≡ spec.without (map bytes_of own.now.keys) (spec.blocks_at (map class_of classes.now) base) ++ map bytes_of own.now.keys) }
 {
     let inherited = inherited_blocks(alloc, own, classes, base)?;
-    Ok(with_blocks(inherited, own.as_slice())?)
+    with_blocks(inherited, own.as_slice())
 }
 
 fn count_inherited(classes: &[ClassNames<'_>], base: Option<u32>) -> usize
@@ -248,12 +246,12 @@ fn class_names<'a>(
     ensures { IfOk result (λ c. class_of c ≡ spec.class_name (map class_of classes.now) base name.now (class_part part.entry)) }
 {
     let blocks = all_blocks(alloc, &part.blocks, classes, base);
+    let (part, blocks) = beside(part, blocks)?;
     drop((part.own, part.blocks));
-    let (props, blocks) = beside(part.props, blocks)?;
     Ok(ClassNames {
         name,
         base,
-        props,
+        props: part.props,
         inherited: count_inherited(classes, base),
         blocks,
     })
@@ -279,7 +277,7 @@ fn class_body<'a>(
     ensures { IfOk result (λ p. class_part p ≡ spec.class_body first_one (head_of head.now) (map class_item_tree items.now)) }
 {
     let start = class_start(alloc, head.classes, head.base)?;
-    Ok(class_items(alloc, head, start, items)?)
+    class_items(alloc, head, start, items)
 }
 
 /// With the name of one more class, which stands for the number behind all classes.
@@ -291,14 +289,8 @@ fn with_class_name<'a>(globals: Globals<'a>, name: &'a [u8]) -> Result<Globals<'
     ensures fault { IfOk result (λ s. s.fault ≡ globals.entry.fault) }
 {
     let number = number_behind(globals.classes.as_slice());
-    let names = and_name(globals.names, name, Global::OfClass(number));
-    let (classes, (enums, names)) = beside(globals.classes, beside(globals.enums, names))?;
-    Ok(Globals {
-        names,
-        classes,
-        enums,
-        fault: globals.fault,
-    })
+    let names = and_name(globals.names, name, Global::OfClass(number))?;
+    Ok(Globals { names, ..globals })
 }
 
 /// What is known of a class that is named already, after all of its items.
@@ -317,7 +309,9 @@ fn class_inside<'a>(
     ensures { IfOk result (λ p. class_part p ≡ spec.class_body first_one (spec.head_inside (globals_part (names_of names.now) globals.now) base (class_tree decl.now)) (class_tree decl.now).items) }
 {
     let items = decl.items.as_slice();
-    let later = own_properties(names, IndexSet::new(alloc), items)?;
+    let mut later = IndexSet::new(alloc);
+    let named = own_properties(names, &mut later, items);
+    let (later, _done) = beside(later, named)?;
     let head = ClassHead {
         number: number_behind(globals.classes.as_slice()),
         base,
@@ -328,7 +322,9 @@ fn class_inside<'a>(
         later: &later,
         none,
     };
-    Ok(class_body(alloc, &head, items)?)
+    let part = class_body(alloc, &head, items);
+    drop(later);
+    part
 }
 
 /// With one more class behind the others, by what is known of its items.
@@ -347,15 +343,14 @@ fn with_class<'a>(
     ensures count { IfOk result (λ s. length s.classes ≡ length globals.entry.classes + 1) }
 {
     let class = class_names(alloc, globals.classes.as_slice(), base, name, part);
-    let (globals, class) = beside(globals, class)?;
-    let classes = pushed(globals.classes, class);
-    let (names, (enums, classes)) = beside(globals.names, beside(globals.enums, classes))?;
-    Ok(Globals {
-        names,
-        classes,
-        enums,
-        fault,
-    })
+    let (mut globals, class) = beside(globals, class)?;
+    match globals.classes.push(class) {
+        Ok(()) => Ok(Globals { fault, ..globals }),
+        Err(_) => {
+            drop(globals);
+            Err(NoMemory)
+        }
+    }
 }
 
 /// One more class. `names`: what the tokens spell; `none`: what no declaration can name.
@@ -384,5 +379,5 @@ pub fn class_decl<'a>(
     let (globals, part) = beside(globals, part)?;
     let own = earlier(part.fault, label_fault(names, decl.name, decl.label));
     let fault = earlier(globals.fault, earlier(base_fault, earlier(twice, own)));
-    Ok(with_class(alloc, globals, base, spelled, part, fault)?)
+    with_class(alloc, globals, base, spelled, part, fault)
 }

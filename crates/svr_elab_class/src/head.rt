@@ -1,6 +1,6 @@
 // What stands around the items of a class, and what is known of it after some of them.
 
-ghost use Rattle.std.specs.Prelude.{◌≡◌, IfOk, map, length};
+ghost use Rattle.std.specs.Prelude.{◌≡◌, OnOk, map, length};
 ghost use Rattle.std.specs.List.{list_any};
 ghost use Rattle.svr_elab_names.specs.Names.{is_name, is_same, class_props};
 ghost use Rattle.svr_elab_names.specs.Tables.{space_of, prop_of, class_of, bytes_of};
@@ -92,16 +92,12 @@ pub(crate) fn is_among(names: &IndexSet<&[u8]>, name: &[u8]) -> bool
     names.contains(name)
 }
 
-/// These names with one more, unless it is there.
-pub(crate) fn with_name<'a>(
-    names: IndexSet<&'a [u8]>,
-    name: &'a [u8],
-) -> Result<IndexSet<&'a [u8]>, NoMemory>
-    ensures { IfOk result (λ s. map bytes_of s.keys ≡ spec.with_name (map bytes_of names.entry.keys) name.now) }
+/// One more name, unless it is there.
+pub(crate) fn with_name<'a>(names: &mut IndexSet<&'a [u8]>, name: &'a [u8]) -> Result<(), NoMemory>
+    ensures { OnOk result (map bytes_of names.new.keys ≡ spec.with_name (map bytes_of names.old.keys) name.now) }
 {
-    let mut names = names;
     match names.insert(name) {
-        Ok(_) => Ok(names),
+        Ok(_) => Ok(()),
         Err(_) => Err(NoMemory),
     }
 }

@@ -1,6 +1,6 @@
 // Properties and blocks of a class, each behind those before it.
 
-ghost use Rattle.std.specs.Prelude.{◌≡◌, ◌<◌, IfOk, map, min};
+ghost use Rattle.std.specs.Prelude.{◌≡◌, ◌<◌, IfOk, OnOk, map, min};
 ghost use Rattle.svr_limits.specs.declared.limit.TheConstants.{PROPERTY_LIMIT};
 ghost use Rattle.svr_token.specs.Names.{names_of};
 ghost use Rattle.svr_tree.specs.DeclTree as tree;
@@ -31,21 +31,20 @@ use svr_refusal::Refusal;
 use svr_tree::{ClassItem, Declarator, PropertyDecl};
 use svr_typed::NoMemory;
 
-/// The properties with one more, unless its name is there.
+/// One more property, unless its name is there.
 fn and_prop<'a>(
-    props: IndexMap<&'a [u8], PropEntry>,
+    props: &mut IndexMap<&'a [u8], PropEntry>,
     name: &'a [u8],
     property: Property,
     first: u64,
-) -> Result<IndexMap<&'a [u8], PropEntry>, NoMemory>
-    ensures { IfOk result (λ m. map prop_of m.entries ≡ spec.and_prop (map prop_of props.entry.entries) name.now property first) }
+) -> Result<(), NoMemory>
+    ensures { OnOk result (map prop_of props.new.entries ≡ spec.and_prop (map prop_of props.old.entries) name.now property first) }
 {
-    let mut props = props;
     if props.get(name).is_some() {
-        return Ok(props);
+        return Ok(());
     }
     match props.insert(name, PropEntry { property, first }) {
-        Ok(_) => Ok(props),
+        Ok(_) => Ok(()),
         Err(_) => Err(NoMemory),
     }
 }
@@ -67,6 +66,39 @@ fn number_behind(count: usize) -> u32
     count.min(PROPERTY_LIMIT as usize) as u32
 }
 
+fn and_fault(part: ClassPart<'_>, fault: Option<Fault>) -> ClassPart<'_>
+    ensures { class_part result ≡ spec.and_faults first_one (class_part part.entry) fault }
+{
+    let fault = earlier(part.fault, fault);
+    ClassPart { fault, ..part }
+}
+
+/// With a property of this name, unless an earlier declaration has it.
+fn with_property<'a>(
+    part: ClassPart<'a>,
+    name: &'a [u8],
+    property: Property,
+    first: u64,
+    fault: Option<Fault>,
+) -> Result<ClassPart<'a>, NoMemory>
+    ensures { IfOk result (λ p. class_part p ≡ spec.with_property first_one (class_part part.entry) name.now property first fault) }
+{
+    if is_among(&part.own, name) {
+        return Ok(and_fault(part, fault));
+    }
+    let arrays = and_array(part.arrays, property.dims);
+    let fault = earlier(part.fault, fault);
+    let mut part = ClassPart {
+        arrays,
+        fault,
+        ..part
+    };
+    let props = and_prop(&mut part.props, name, property, first);
+    let own = with_name(&mut part.own, name);
+    let (part, _done) = beside(part, both(props, own))?;
+    Ok(part)
+}
+
 /// One more property, whose dimensions and initial value are known.
 fn and_property<'a>(
     head: &ClassHead<'_, 'a>,
@@ -80,37 +112,19 @@ fn and_property<'a>(
     ensures { IfOk result (λ p. class_part p ≡ spec.and_property first_one (head_of head.now) (class_part part.entry) name rand (used_of used) first.number first.fault (dims_part dims)) }
 {
     let spelled = head.names.name(name);
-    let doubles = is_among(&part.own, spelled);
+    let count = part.props.len();
+    let kind = used.kind();
     let before = Before {
-        props: part.props.len(),
+        props: count,
         arrays: part.arrays,
         inherits: is_inherited(head.classes, head.base, spelled),
-        doubles,
-        wide: is_wide_cycle(head.enums, used.kind()),
+        doubles: is_among(&part.own, spelled),
+        wide: is_wide_cycle(head.enums, kind),
     };
     let own = property_fault(before, name, rand, used, dims.dims);
-    let fault = earlier(part.fault, earlier(dims.fault, earlier(first.fault, own)));
-    if doubles {
-        return Ok(ClassPart {
-            props: part.props,
-            arrays: part.arrays,
-            own: part.own,
-            blocks: part.blocks,
-            fault,
-        });
-    }
-    let number = number_behind(part.props.len());
-    let property = property_of(number, head.number, rand, used.kind(), dims.dims);
-    let props = and_prop(part.props, spelled, property, first.number);
-    let names = both(props, with_name(part.own, spelled));
-    let (blocks, (props, own)) = beside(part.blocks, names)?;
-    Ok(ClassPart {
-        props,
-        arrays: and_array(part.arrays, dims.dims),
-        own,
-        blocks,
-        fault,
-    })
+    let fault = earlier(dims.fault, earlier(first.fault, own));
+    let property = property_of(number_behind(count), head.number, rand, kind, dims.dims);
+    with_property(part, spelled, property, first.number, fault)
 }
 
 fn declarator<'a>(
@@ -143,7 +157,7 @@ fn declarator<'a>(
         &head.behind(&part.props),
     );
     let (part, first) = beside(part, first)?;
-    Ok(and_property(head, part, decl.name, rand, used, first, dims)?)
+    and_property(head, part, decl.name, rand, used, first, dims)
 }
 
 fn declarators<'a>(
@@ -167,19 +181,6 @@ fn declarators<'a>(
     Ok(part)
 }
 
-fn and_fault(part: ClassPart<'_>, fault: Option<Fault>) -> ClassPart<'_>
-    ensures { class_part result ≡ spec.and_faults first_one (class_part part.entry) fault }
-{
-    let fault = earlier(part.fault, fault);
-    ClassPart {
-        props: part.props,
-        arrays: part.arrays,
-        own: part.own,
-        blocks: part.blocks,
-        fault,
-    }
-}
-
 fn property_decl<'a>(
     alloc: Global,
     head: &ClassHead<'_, 'a>,
@@ -194,14 +195,14 @@ fn property_decl<'a>(
     ensures { IfOk result (λ p. class_part p ≡ spec.property_decl first_one (head_of head.now) (class_part part.entry) decl.now.rand (used_part used) (property_tree decl.now).decls) }
 {
     let part = and_fault(part, used.fault);
-    Ok(declarators(
+    declarators(
         alloc,
         head,
         part,
         decl.rand,
         used.used,
         decl.decls.as_slice(),
-    )?)
+    )
 }
 
 /// One more block, whose items come later.
@@ -215,18 +216,11 @@ fn with_block<'a>(
     if is_among(&part.own, spelled) {
         return Ok(and_fault(part, when(true, name, Refusal::DoubleName)));
     }
-    let names = both(
-        with_name(part.own, spelled),
-        with_name(part.blocks, spelled),
-    );
-    let (props, (own, blocks)) = beside(part.props, names)?;
-    Ok(ClassPart {
-        props,
-        arrays: part.arrays,
-        own,
-        blocks,
-        fault: part.fault,
-    })
+    let mut part = part;
+    let own = with_name(&mut part.own, spelled);
+    let blocks = with_name(&mut part.blocks, spelled);
+    let (part, _done) = beside(part, both(own, blocks))?;
+    Ok(part)
 }
 
 fn property_item<'a>(
@@ -241,11 +235,9 @@ fn property_item<'a>(
     requires fits { DeclaratorsFit 0 (property_tree decl.now).decls }
     ensures { IfOk result (λ p. class_part p ≡ spec.class_item first_one (head_of head.now) (class_part part.entry) (tree.property (property_tree decl.now))) }
 {
-    let used = {
-        let space = head.behind(&part.props);
-        data_type(alloc, &decl.kind, &space)?
-    };
-    Ok(property_decl(alloc, head, part, used, decl)?)
+    let used = data_type(alloc, &decl.kind, &head.behind(&part.props));
+    let (part, used) = beside(part, used)?;
+    property_decl(alloc, head, part, used, decl)
 }
 
 fn class_item<'a>(

@@ -21,6 +21,7 @@ use svr_elab_expr::value;
 use svr_elab_fault::{Fault, earlier, when};
 use svr_elab_names::{Dims, NameSpace, Vector};
 use svr_elab_part::Part;
+use svr_elab_type::let_go;
 use svr_eval::{Assign, Env, value_at};
 use svr_num::Bits;
 use svr_refusal::Refusal;
@@ -137,10 +138,12 @@ fn written_value(
     ensures fault { IfOk result (λ i. i.fault ≡ spec.first_faults first_one name dims kind (parts.value first_one (space_of names.now) (expr_tree e.now))) }
 {
     let part = value(alloc, e, names)?;
-    Ok(InitialPart {
+    let initial = InitialPart {
         number: first_value(alloc, kind, &part),
         fault: first_fault(name, dims, kind, &part),
-    })
+    };
+    let_go(part);
+    Ok(initial)
 }
 
 /// What the initial value of the property of this name, type and dimensions stores, with its first refusal.

@@ -1,7 +1,8 @@
 // What a declared property is refused for (IEEE 1800-2017, clauses 7, 8 and 18.4).
 
-ghost use Rattle.std.specs.Prelude.{◌≡◌};
+ghost use Rattle.std.specs.Prelude.{◌≡◌, ◌&&◌, ◌||◌, nat_le};
 ghost use Rattle.svr_elab_fault.specs.Refusals.{first_one};
+ghost use Rattle.svr_elab_names.specs.Names.{is_array};
 ghost use Rattle.svr_elab_part.specs.Shapes as shapes;
 ghost use Rattle.svr_elab_decl.specs.Properties as spec;
 ghost use Rattle.svr_elab_decl.specs.Seen.{before_of, used_of};
@@ -54,6 +55,36 @@ fn is_state(rand: Rand) -> bool
     }
 }
 
+/// Whether a property has the type of objects, or the name of one that its class inherits.
+fn is_left_out(used: Used, inherits: bool) -> bool
+    ensures { result ≡ (spec.is_objects (used_of used) || inherits) }
+{
+    used.is_objects() || inherits
+}
+
+/// Whether a cyclic property is an array.
+fn is_cyclic_array(rand: Rand, dims: Dims) -> bool
+    ensures { result ≡ (shapes.is_randc rand && is_array dims) }
+{
+    is_randc(rand) && dims.is_array()
+}
+
+/// Whether the type of a cyclic property has too many values.
+fn is_too_wide(rand: Rand, wide: bool) -> bool
+    ensures { result ≡ (shapes.is_randc rand && wide) }
+{
+    is_randc(rand) && wide
+}
+
+/// Whether a property of these dimensions has too many elements, or makes too many properties or arrays of its class.
+fn is_many(before: Before, dims: Dims) -> bool
+    ensures { result ≡ (spec.is_large dims || (nat_le PROPERTY_LIMIT before.props || (is_array dims && nat_le ARRAY_LIMIT before.arrays))) }
+{
+    is_large(dims)
+        || (PROPERTY_LIMIT as usize <= before.props
+            || (dims.is_array() && ARRAY_LIMIT <= before.arrays))
+}
+
 /// What a declared property is refused for.
 pub fn property_fault(
     before: Before,
@@ -64,20 +95,19 @@ pub fn property_fault(
 ) -> Option<Fault>
     ensures { result ≡ spec.property_faults first_one (before_of before) name rand (used_of used) dims }
 {
-    let array = dims.is_array();
-    let cyclic = is_randc(rand);
-    let many = is_large(dims)
-        || (PROPERTY_LIMIT as usize <= before.props || (array && ARRAY_LIMIT <= before.arrays));
     let limits = earlier(
-        when(cyclic && before.wide, name, Refusal::RandcTooWide),
-        when(many, name, Refusal::TooMany),
+        when(is_too_wide(rand, before.wide), name, Refusal::RandcTooWide),
+        when(is_many(before, dims), name, Refusal::TooMany),
     );
     let form = earlier(
         when(before.doubles, name, Refusal::DoubleName),
-        earlier(when(cyclic && array, name, Refusal::LeftOut), limits),
+        earlier(
+            when(is_cyclic_array(rand, dims), name, Refusal::LeftOut),
+            limits,
+        ),
     );
     earlier(
-        when(used.is_objects() || before.inherits, name, Refusal::LeftOut),
+        when(is_left_out(used, before.inherits), name, Refusal::LeftOut),
         form,
     )
 }

@@ -1,43 +1,34 @@
 // `dist` (IEEE 1800-2017, 18.5.4).
 
-ghost use Rattle.std.specs.Prelude.{◌≡◌, ◌||◌, IfOk, None, Some, option_map, map};
+ghost use Rattle.std.specs.Prelude.{◌≡◌, ◌||◌, IfOk, None, Some, option_map};
 ghost use Rattle.svr_typed.specs.ExprTerm.{expr_term, range_term};
 ghost use Rattle.svr_typed.specs.ItemTerm.{dist_term};
 ghost use Rattle.svr_elab_fault.specs.Refusals.{first_one};
 ghost use Rattle.svr_elab_part.specs.Seen.{part_of, range_part_of};
-ghost use Rattle.svr_elab_part.specs.Shapes.{and_more, both_known};
+ghost use Rattle.svr_elab_part.specs.Shapes.{both_known};
 ghost use Rattle.svr_elab_item.specs.Items as spec;
 ghost use Rattle.svr_elab_item.specs.Seen.{dist_part, dist_at, item_part, weight_part};
 
+use crate::list::and_more;
 use crate::part::{Around, DistPart, ItemPart};
 use crate::tree;
-use sqlite_items::Items;
 use svr_elab_fault::{Fault, earlier, when};
-use svr_elab_form::pushed;
 use svr_elab_part::{Part, RangePart};
 use svr_operator::Share;
 use svr_refusal::Refusal;
 use svr_typed::{NoMemory, TDistItem, TExpr, TRange};
 
-/// The fault of a weight, which may read no property that can be random.
-fn weight_fault(weight: &Option<(Share, Part)>) -> Option<Fault>
-    ensures { result ≡ spec.weight_faults first_one (option_map weight_part weight.now) }
+/// The fault of a weight, which may read no property that can be random, and whether it reads a cyclic one.
+fn weight_known(weight: &Option<(Share, Part)>) -> (Option<Fault>, bool)
+    ensures fault { result.0 ≡ spec.weight_faults first_one (option_map weight_part weight.now) }
+    ensures cyclic { result.1 ≡ spec.weight_cyclic first_one (option_map weight_part weight.now) }
 {
     match weight {
-        None => None,
-        Some((_, part)) => earlier(
-            part.fault,
-            when(part.reads.is_open(), part.at, Refusal::StateNeeded),
-        ),
-    }
-}
-
-fn is_weight_cyclic(weight: &Option<(Share, Part)>) -> bool
-    ensures { result ≡ spec.weight_cyclic first_one (option_map weight_part weight.now) }
-{
-    match weight {
-        None => false,
-        Some((_, part)) => part.reads.cyclic,
+        None => (None, false),
+        Some((_, part)) => {
+            let open = when(part.reads.is_open(), part.at, Refusal::StateNeeded);
+            (earlier(part.fault, open), part.reads.cyclic)
+        }
     }
 }
 
@@ -68,23 +59,11 @@ fn member_tree(range: RangePart, weight: Option<(Share, Part)>) -> Option<TDistI
     }
 }
 
-fn and_tree(
-    list: Option<Items<TDistItem>>,
-    member: Option<TDistItem>,
-) -> Result<Option<Items<TDistItem>>, NoMemory>
-    ensures { IfOk result (λ r. option_map (map dist_term) r ≡ and_more (option_map (map dist_term) list) (option_map dist_term member)) }
+/// Whether the members so far, one more or its weight read a cyclic random property.
+fn is_any_cyclic(dist: bool, range: bool, weight: bool) -> bool
+    ensures { result ≡ (dist || (range || weight)) }
 {
-    match list.zip(member) {
-        None => Ok(None),
-        Some((list, member)) => Ok(Some(pushed(list, member)?)),
-    }
-}
-
-/// Whether the members so far or one more read a cyclic random property.
-fn is_any_cyclic(dist: &DistPart, range: &RangePart, weight: &Option<(Share, Part)>) -> bool
-    ensures { result ≡ (dist.now.cyclic || (range.now.reads.cyclic || spec.weight_cyclic first_one (option_map weight_part weight.now))) }
-{
-    dist.cyclic || (range.reads.cyclic || is_weight_cyclic(weight))
+    dist || (range || weight)
 }
 
 /// One more member of a distribution, with its weight where one is written (IEEE 1800-2017, 18.5.4). A weight may read no property that can be random.
@@ -95,11 +74,12 @@ pub fn and_dist(
 ) -> Result<DistPart, NoMemory>
     ensures { IfOk result (λ d. dist_part d ≡ spec.and_dist first_one (dist_part dist) (range_part_of range) (option_map weight_part weight)) }
 {
-    let member_fault = earlier(range.fault, weight_fault(&weight));
-    let cyclic = is_any_cyclic(&dist, &range, &weight);
+    let (weight_fault, weight_cyclic) = weight_known(&weight);
+    let member_fault = earlier(range.fault, weight_fault);
+    let cyclic = is_any_cyclic(dist.cyclic, range.reads.cyclic, weight_cyclic);
     let fault = earlier(dist.fault, member_fault);
     Ok(DistPart {
-        tree: and_tree(dist.tree, member_tree(range, weight))?,
+        tree: and_more(dist.tree, member_tree(range, weight))?,
         fault,
         cyclic,
     })

@@ -1,22 +1,20 @@
 // Sets with a guard, loops and `disable soft`.
 
-ghost use Rattle.std.specs.Prelude.{◌≡◌, ◌<◌, length, IfOk, option_map, map};
-ghost use Rattle.svr_typed.specs.ItemTerm.{item_term};
+ghost use Rattle.std.specs.Prelude.{◌≡◌, ◌<◌, length, IfOk};
 ghost use Rattle.svr_elab_fault.specs.Refusals.{first_one};
 ghost use Rattle.svr_elab_part.specs.Seen.{part_of};
-ghost use Rattle.svr_elab_part.specs.Shapes.{and_more};
 ghost use Rattle.svr_elab_item.specs.Items as spec;
 ghost use Rattle.svr_elab_item.specs.Seen as seen;
 
+use crate::list::and_more;
 use crate::part::{Around, ElsePart, ItemPart, ItemsPart};
 use crate::root::{array_of, has_too_many_names, is_no_target};
 use crate::tree;
-use sqlite_items::Items;
 use svr_elab_fault::{Fault, earlier, when};
-use svr_elab_form::{is_no_array, pushed};
+use svr_elab_form::is_no_array;
 use svr_elab_part::Part;
 use svr_refusal::Refusal;
-use svr_typed::{NoMemory, TItem};
+use svr_typed::NoMemory;
 
 /// `guard -> body` (IEEE 1800-2017, 18.5.6)
 pub fn implies_item(guard: Part, body: ItemsPart) -> ItemPart
@@ -74,8 +72,10 @@ pub fn foreach_item(array: Part, vars: &[u32], body: ItemsPart) -> ItemPart
     ensures { seen.item_part result ≡ spec.foreach_item first_one (part_of array) vars.now (seen.items_part body) }
 {
     let fault = foreach_fault(&array, vars, body.fault);
+    let property = array_of(array.form.root);
+    drop(array.tree);
     ItemPart {
-        tree: tree::foreach(array_of(array.form.root), vars.len() as u8, body.trees),
+        tree: tree::foreach(property, vars.len() as u8, body.trees),
         fault,
     }
 }
@@ -112,26 +112,13 @@ pub fn disable_item(around: Around, target: Part) -> ItemPart
     }
 }
 
-/// One more item in a list, where all are known.
-fn and_tree(
-    list: Option<Items<TItem>>,
-    item: Option<TItem>,
-) -> Result<Option<Items<TItem>>, NoMemory>
-    ensures { IfOk result (λ r. option_map (map item_term) r ≡ and_more (option_map (map item_term) list) (option_map item_term item)) }
-{
-    match list.zip(item) {
-        None => Ok(None),
-        Some((list, item)) => Ok(Some(pushed(list, item)?)),
-    }
-}
-
 /// One more item in a set, where all are known.
 pub fn and_item(part: ItemsPart, item: ItemPart) -> Result<ItemsPart, NoMemory>
     ensures { IfOk result (λ p. seen.items_part p ≡ spec.and_item first_one (seen.items_part part) (seen.item_part item)) }
 {
     let fault = earlier(part.fault, item.fault);
     Ok(ItemsPart {
-        trees: and_tree(part.trees, item.tree)?,
+        trees: and_more(part.trees, item.tree)?,
         fault,
     })
 }

@@ -10,28 +10,19 @@ use std::alloc::Global;
 use svr_elab_names::{LoopName, NameSpace};
 use svr_typed::NoMemory;
 
-/// The loops that are around a place.
-fn loops_of<'a>(alloc: Global, names: &NameSpace<'_, 'a>) -> Result<Items<LoopName<'a>>, NoMemory>
-    ensures { IfOk result (λ ls. ls ≡ names.now.loops.now) }
-{
-    let mut loops = Items::new(alloc);
-    for each in names.loops {
-        loops.push(*each)?;
-    }
-    Ok(loops)
-}
-
 /// These loops, and one more of this name inside of them.
 fn one_inside<'a>(
     alloc: Global,
     names: &NameSpace<'_, 'a>,
-    loops: &[LoopName<'a>],
+    loops: Items<LoopName<'a>>,
     name: u32,
 ) -> Result<Items<LoopName<'a>>, NoMemory>
-    ensures space { IfOk result (λ ls. names_spec.with_loops (space_of names.now) (map loop_of ls) ≡ names_spec.in_loop (names_spec.with_loops (space_of names.now) (map loop_of loops.now)) name) }
-    ensures length { IfOk result (λ ls. length ls ≡ length loops.now + 1) }
+    ensures space { IfOk result (λ ls. names_spec.with_loops (space_of names.now) (map loop_of ls) ≡ names_spec.in_loop (names_spec.with_loops (space_of names.now) (map loop_of loops.entry)) name) }
+    ensures length { IfOk result (λ ls. length ls ≡ length loops.entry + 1) }
 {
-    Ok(names.with_loops(loops).in_loop(alloc, name)?)
+    let inner = names.with_loops(loops.as_slice()).in_loop(alloc, name);
+    drop(loops);
+    Ok(inner?)
 }
 
 /// The loops inside a `foreach` with these names, the last one innermost.
@@ -43,9 +34,9 @@ pub fn in_body<'a>(
     ensures space { IfOk result (λ ls. names_spec.with_loops (space_of names.now) (map loop_of ls) ≡ spec.in_body (space_of names.now) vars.now) }
     ensures length { IfOk result (λ ls. length ls ≡ length names.now.loops.now + length vars.now) }
 {
-    let mut loops = loops_of(alloc, names)?;
+    let mut loops = Items::from_slice(alloc, names.loops)?;
     for name in vars {
-        loops = one_inside(alloc, names, loops.as_slice(), *name)?;
+        loops = one_inside(alloc, names, loops, *name)?;
     }
     Ok(loops)
 }

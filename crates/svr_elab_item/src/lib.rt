@@ -7,6 +7,7 @@ mod dist;
 mod examples;
 mod form;
 mod inside;
+mod list;
 mod part;
 mod root;
 mod solve;

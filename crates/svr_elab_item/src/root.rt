@@ -9,16 +9,6 @@ use svr_elab_names::{Dims, Property};
 use svr_elab_part::{Part, Root, Shape};
 use svr_operator::Rand;
 
-fn is_property(root: Root) -> bool
-    ensures { result ≡ spec.is_property root }
-{
-    match root {
-        Root::Field(_, _) => true,
-        Root::Nothing | Root::Refused | Root::Member | Root::Variable(_) | Root::Object(_, _) =>
-            false,
-    }
-}
-
 fn is_randc(rand: Rand) -> bool
     ensures { result ≡ shapes.is_randc rand }
 {
@@ -87,18 +77,15 @@ pub(crate) fn has_too_many_names(array: &Part, vars: &[u32]) -> bool
     form.extent.is_whole() && (vars.len() > 1 && !has_rows(form.root.property().dims))
 }
 
-/// Whether this is the whole of a property, or an element.
-fn is_target(part: &Part) -> bool
-    ensures { result ≡ spec.is_target (part_of part.now) }
-{
-    is_property(part.form.root) && !part.form.bits
-}
-
-/// Whether this is known to be no target of `disable soft`.
+/// Whether this is known to be no target of `disable soft`, which is the whole of a property or an element.
 pub(crate) fn is_no_target(part: &Part) -> bool
     ensures { result ≡ spec.is_no_target (part_of part.now) }
 {
-    !part.form.root.is_refused() && !is_target(part)
+    match part.form.root {
+        Root::Refused => false,
+        Root::Field(_, _) => part.form.bits,
+        Root::Nothing | Root::Member | Root::Variable(_) | Root::Object(_, _) => true,
+    }
 }
 
 /// Whether two members of `unique` have the same size and sign, or one has none.

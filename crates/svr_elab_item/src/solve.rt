@@ -10,14 +10,15 @@ ghost use Rattle.svr_elab_part.specs.Elab as elab_spec;
 ghost use Rattle.svr_elab_item.specs.Items as spec;
 ghost use Rattle.svr_elab_item.specs.Seen.{item_part, solve_part};
 
+use crate::list::and_more;
 use crate::part::{ItemPart, SolvePart};
 use crate::root::is_plain_rand;
 use crate::tree;
-use crate::unique::and_expr;
 use sqlite_items::Items;
 use std::alloc::Global;
 use svr_elab_fault::{Fault, earlier, when};
 use svr_elab_names::{Meaning, NameSpace, Property};
+use svr_elab_part::both;
 use svr_refusal::Refusal;
 use svr_tree::Expr;
 use svr_typed::{NoMemory, TExpr, TNode};
@@ -92,7 +93,7 @@ fn and_solve(side: SolvePart, name: u32, meaning: Meaning) -> Result<SolvePart, 
 {
     let fault = earlier(side.fault, solve_fault(name, meaning));
     Ok(SolvePart {
-        trees: and_expr(side.trees, solve_tree(meaning))?,
+        trees: and_more(side.trees, solve_tree(meaning))?,
         fault,
     })
 }
@@ -162,7 +163,9 @@ pub fn solve_item(
     requires loops { length names.now.loops.now < 2 ^ 32 }
     ensures { IfOk result (λ p. item_part p ≡ spec.solve_item first_one (spec.solve_list first_one (space_of names.now) (spec.no_names first_one) (expr_trees first.now)) (spec.solve_list first_one (space_of names.now) (spec.no_names first_one) (expr_trees later.now))) }
 {
-    let first = solve_list(alloc, first, names)?;
-    let later = solve_list(alloc, later, names)?;
+    let (first, later) = both(
+        solve_list(alloc, first, names),
+        solve_list(alloc, later, names),
+    )?;
     Ok(both_sides(first, later))
 }

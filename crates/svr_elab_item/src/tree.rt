@@ -51,16 +51,6 @@ pub(crate) fn implies(test: Option<TExpr>, body: Option<Items<TItem>>) -> Option
     }
 }
 
-/// The items behind `else`, where they are known.
-pub(crate) fn else_items(body: Option<Items<TItem>>) -> Option<Option<Items<TItem>>>
-    ensures { option_map else_term result ≡ spec.else_tree (option_map (map item_term) body) }
-{
-    match body {
-        None => None,
-        Some(body) => Some(Some(body)),
-    }
-}
-
 pub(crate) fn branch(
     test: Option<TExpr>,
     yes: Option<Items<TItem>>,
@@ -70,10 +60,17 @@ pub(crate) fn branch(
 {
     match test.zip(yes).zip(no) {
         None => None,
-        Some(((test, yes), no)) => match no {
-            None => Some(TItem::branch(test, yes)),
-            Some(no) => Some(TItem::branch_else(test, yes, no)),
-        },
+        Some(((test, yes), no)) => Some(TItem::Branch { test, yes, no }),
+    }
+}
+
+/// The items behind `else`, where they are known.
+pub(crate) fn else_items(body: Option<Items<TItem>>) -> Option<Option<Items<TItem>>>
+    ensures { option_map else_term result ≡ spec.else_tree (option_map (map item_term) body) }
+{
+    match body {
+        None => None,
+        Some(body) => Some(Some(body)),
     }
 }
 

@@ -1,36 +1,20 @@
 // `unique` (IEEE 1800-2017, 18.5.5).
 
-ghost use Rattle.std.specs.Prelude.{◌≡◌, IfOk, Some, option_map, map};
-ghost use Rattle.svr_typed.specs.ExprTerm.{expr_term};
+ghost use Rattle.std.specs.Prelude.{◌≡◌, IfOk, Some};
 ghost use Rattle.svr_elab_fault.specs.Refusals.{first_one};
 ghost use Rattle.svr_elab_names.specs.Names as names_spec;
 ghost use Rattle.svr_elab_part.specs.Seen.{part_of};
-ghost use Rattle.svr_elab_part.specs.Shapes.{and_more};
 ghost use Rattle.svr_elab_item.specs.Items as spec;
 ghost use Rattle.svr_elab_item.specs.Seen.{item_part, unique_part};
 
+use crate::list::and_more;
 use crate::part::{ItemPart, UniquePart};
 use crate::root::{differs, is_cyclic_root};
 use crate::tree;
-use sqlite_items::Items;
 use svr_elab_fault::{earlier, when};
-use svr_elab_form::pushed;
 use svr_elab_part::{Part, Shape};
 use svr_refusal::Refusal;
-use svr_typed::{NoMemory, TExpr};
-
-/// One more expression in a list, where all are known.
-pub(crate) fn and_expr(
-    list: Option<Items<TExpr>>,
-    e: Option<TExpr>,
-) -> Result<Option<Items<TExpr>>, NoMemory>
-    ensures { IfOk result (λ r. option_map (map expr_term) r ≡ and_more (option_map (map expr_term) list) (option_map expr_term e)) }
-{
-    match list.zip(e) {
-        None => Ok(None),
-        Some((list, e)) => Ok(Some(pushed(list, e)?)),
-    }
-}
+use svr_typed::NoMemory;
 
 fn or_else(first: Option<Option<Shape>>, shape: Option<Shape>) -> Option<Option<Shape>>
     ensures { result ≡ names_spec.or_else first (Some shape) }
@@ -58,7 +42,7 @@ pub fn and_member(unique: UniquePart, part: Part) -> Result<UniquePart, NoMemory
     let fault = earlier(unique.fault, earlier(part.fault, earlier(cyclic, other)));
     let first = or_else(unique.first, part.shape);
     Ok(UniquePart {
-        trees: and_expr(unique.trees, part.tree)?,
+        trees: and_more(unique.trees, part.tree)?,
         first,
         fault,
     })

@@ -1,5 +1,7 @@
 -- What the walk needs of each form of statement, by its parts.
-use Rattle.std.proofs.Common.{◌≡◌, ℕ, ◌+◌, ◌<◌, List, [], ◌∷◌, Option, Some, None, take, drop, get_or, length, refl, sym, ap, ◌∙◌}
+use Rattle.std.proofs.Common.{◌≡◌, ℕ, ◌+◌, ◌<◌, List, [], ◌∷◌, Option, Some, None, Result, Ok, Err, IfOk, take, drop, get_or, length, refl, sym, subst, ap, ◌∙◌}
+use Rattle.std.specs.Result.{result_and}
+use Rattle.std.proofs.lemmas.Result.{IfOk-weaker}
 use Rattle.std.proofs.lemmas.List.{at_drop_more}
 use Rattle.svr_typed.specs.declared.CallList.{CallList}
 use Rattle.svr_tree.specs.declared.RandomizeArgs.{RandomizeArgs}
@@ -14,8 +16,10 @@ use Rattle.svr_elab_names.specs.Names.{Space, PropName, class_props}
 use Rattle.svr_elab_part.specs.Elab.{Elab, elab}
 use Rattle.svr_elab_type.specs.Types.{Constant, constant_at}
 use Rattle.svr_elab_item.specs.declared.Around.{Around}
+use Rattle.svr_elab_item.specs.declared.part.ItemsPart.{ItemsPart}
 use Rattle.svr_elab_item.specs.Items as item_spec
 use Rattle.svr_elab_item.specs.Items.{ItemsElab}
+use Rattle.svr_elab_item.specs.Seen.{items_part}
 use Rattle.svr_elab_stmt.specs.declared.part.StmtPart.{StmtPart}
 use Rattle.svr_elab_stmt.specs.declared.part.StmtsPart.{StmtsPart}
 use Rattle.svr_elab_stmt.specs.Seen.{stmt_part, stmts_part}
@@ -45,10 +49,10 @@ items_are n i ps o r is h p q =
     h ∙ ap (λ (i : Space). item_spec.items first_one i o (item_spec.no_items first_one) is) p
     ∙ ap (λ (o : Around). item_spec.items first_one (spec.in_line_with n ps) o (item_spec.no_items first_one) is) q
 
-pub alone_is : (n : Space) (ps : List PropName) (r : Items) (is : ItemTrees)
-    → r ≡ item_spec.items first_one (spec.in_line_with n ps) item_spec.outside (item_spec.no_items first_one) is → ps ≡ []
-    → r ≡ item_spec.items first_one (spec.in_line_with n []) item_spec.outside (item_spec.no_items first_one) is
-alone_is n ps r is h p = h ∙ ap (λ (ps : List PropName). item_spec.items first_one (spec.in_line_with n ps) item_spec.outside (item_spec.no_items first_one) is) p
+pub alone_is : {E : Type 0} (n : Space) (ps : List PropName) (r : Result ItemsPart E) (is : ItemTrees)
+    → IfOk r (λ p. items_part p ≡ item_spec.items first_one (spec.in_line_with n ps) item_spec.outside (item_spec.no_items first_one) is) → ps ≡ []
+    → IfOk r (λ p. items_part p ≡ item_spec.items first_one (spec.in_line_with n []) item_spec.outside (item_spec.no_items first_one) is)
+alone_is n ps r is h e = subst (λ (ps : List PropName). IfOk r (λ p. items_part p ≡ item_spec.items first_one (spec.in_line_with n ps) item_spec.outside (item_spec.no_items first_one) is)) e h
 
 pub in_line_is : (n : Space) (c : ℕ) (ps : List PropName) (r : Items) (is : ItemTrees)
     → r ≡ item_spec.items first_one (spec.in_line_with n ps) item_spec.outside (item_spec.no_items first_one) is → ps ≡ class_props n.classes c
@@ -103,6 +107,11 @@ pub constant_there : (m n : Space) (x : ExprTree) (r : Constant (Option Fault)) 
 constant_there m n x r h e = h ∙ ap (λ (m : Space). constant_at first_one m x) e
 
 -- ---- lists and repetition
+
+-- what is there where something else was noted before it
+pub grown_is : {U T E : Type 0} (g : Result U E) (s r : Result T E) (P : Type 0) (Q R : T → Type 0) → r ≡ result_and g s → IfOk g (λ _. P) → IfOk s Q → ((x : T) → P → Q x → R x) → IfOk r R
+grown_is {T = T} {E = E} (Ok u) s r P Q R e p q f = subst (λ (r : Result T E). IfOk r R) (sym e) (IfOk-weaker s Q R (λ x h. f x p h) q)
+grown_is {T = T} {E = E} (Err fault) s r P Q R e p q f = subst (λ (r : Result T E). IfOk r R) (sym e) tt
 
 pub next_is : (old new : List ℕ) (makes : Option ℕ) (p : Many) (q : StmtsPart) → new ≡ spec.and_made old makes → stmts_part (spec.and_made old makes) q ≡ p → stmts_part new q ≡ p
 next_is old new makes p q e h = ap (λ (made : List ℕ). stmts_part made q) e ∙ h

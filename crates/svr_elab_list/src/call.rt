@@ -17,6 +17,7 @@ ghost use Rattle.svr_elab_stmt.specs.Fits.{CallFits, InLineFits};
 use indexmap::IndexMap;
 use sqlite_items::Items;
 use std::alloc::Global;
+use svr_elab_expr::both;
 use svr_elab_item::{Around, ItemsPart};
 use svr_elab_names::{NameSpace, PropEntry};
 use svr_elab_set::items;
@@ -42,8 +43,7 @@ where
     ensures { IfOk result (λ p. items_part p ≡ item_spec.items first_one (spec.in_line_with (space_of names.now) (map prop_of props.now.entries)) item_spec.outside (item_spec.no_items first_one) (item_trees list.now)) }
 {
     let inside = in_line(names, props);
-    let part = items(alloc, list, &inside, Around::outside())?;
-    Ok(part)
+    items(alloc, list, &inside, Around::outside())
 }
 
 /// The items of a set in line with a call on an object of an unknown class, which has no properties.
@@ -59,8 +59,7 @@ fn items_alone(
     ensures { IfOk result (λ p. items_part p ≡ item_spec.items first_one (spec.in_line_with (space_of names.now) []) item_spec.outside (item_spec.no_items first_one) (item_trees list.now)) }
 {
     let none = IndexMap::new(alloc);
-    let part = items_with(alloc, &none, list, names)?;
-    Ok(part)
+    items_with(alloc, &none, list, names)
 }
 
 /// The items of a set in line with a call on an object of this class.
@@ -76,8 +75,8 @@ fn set_in_line(
     ensures { IfOk result (λ p. items_part p ≡ spec.in_line_items first_one (space_of names.now) class (Some (item_trees list.now))) }
 {
     match names.classes.get(class as usize) {
-        None => Ok(items_alone(alloc, list, names)?),
-        Some(class) => Ok(items_with(alloc, &class.props, list, names)?),
+        None => items_alone(alloc, list, names),
+        Some(class) => items_with(alloc, &class.props, list, names),
     }
 }
 
@@ -117,9 +116,9 @@ fn call_at(
     ensures value { IfOk result (λ s. stmt_part s ≡ spec.call_of first_one (space_of names.now) (path_seen path.entry) answer args.now (option_map item_trees set.now) (Some (object_seen object))) }
     ensures once { IfOk result (λ s. s.count ≡ 1) }
 {
-    let list = call_list(alloc, object.class, args, names)?;
     let refused = list_fault(alloc, object.class, args, names)?;
-    let set = in_line_items(alloc, object.class, set, names)?;
+    let named = call_list(alloc, object.class, args, names);
+    let (list, set) = both(named, in_line_items(alloc, object.class, set, names))?;
     Ok(call_on(names.made, path, answer, object, list, refused, set))
 }
 
@@ -157,6 +156,5 @@ pub(crate) fn randomized(
     ensures once { IfOk result (λ s. s.count ≡ 1) }
 {
     let path = object_path(&call.path, names);
-    let part = call_of(alloc, path, answer, call, names)?;
-    Ok(part)
+    call_of(alloc, path, answer, call, names)
 }

@@ -146,6 +146,5 @@ pub(crate) fn assign(
     ensures once { IfOk result (λ s. s.count ≡ 1) }
 {
     let left = elab(alloc, target, names)?;
-    let part = assignment(alloc, left, right, names)?;
-    Ok(part)
+    assignment(alloc, left, right, names)
 }

@@ -22,7 +22,6 @@ use crate::right::assign;
 use indexmap::IndexSet;
 use sqlite_items::Items;
 use std::alloc::Global;
-use svr_elab_expr::both;
 use svr_elab_names::NameSpace;
 use svr_elab_stmt::{StmtPart, StmtsPart, and_stmt, block_stmt, mode_stmt, no_stmts, repeat_stmt};
 use svr_elab_target::{and_made, with_made};
@@ -47,8 +46,7 @@ fn assign_made(
     ensures once { IfOk result (λ s. s.count ≡ 1) }
 {
     let inside = with_made(names, made);
-    let part = assign(alloc, target, right, &inside)?;
-    Ok(part)
+    assign(alloc, target, right, &inside)
 }
 
 /// A call where these object variables have an object.
@@ -66,8 +64,7 @@ fn call_made(
     ensures once { IfOk result (λ s. s.count ≡ 1) }
 {
     let inside = with_made(names, made);
-    let part = randomized(alloc, None, call, &inside)?;
-    Ok(part)
+    randomized(alloc, None, call, &inside)
 }
 
 /// A mode where these object variables have an object.
@@ -86,8 +83,7 @@ fn mode_made(
     ensures once { IfOk result (λ s. s.count ≡ 1) }
 {
     let inside = with_made(names, made);
-    let part = mode_stmt(alloc, mode, &inside)?;
-    Ok(part)
+    mode_stmt(alloc, mode, &inside)
 }
 
 /// A count where these object variables have an object.
@@ -105,8 +101,7 @@ fn count_made(
     ensures high { IfOk result (λ c. IfSome c.number (λ n. n <ℤ pos (2 ^ 64))) }
 {
     let inside = with_made(names, made);
-    let part = constant_at(alloc, count, &inside)?;
-    Ok(part)
+    constant_at(alloc, count, &inside)
 }
 
 /// One more statement behind these, and the object variable that it gives an object to.
@@ -122,8 +117,7 @@ pub fn and_next(
     ensures keys { IfOk result (λ p. made.new.keys ≡ spec.and_made made.old.keys next.makes) }
 {
     let grown = and_made(made, next.makes);
-    let (all, _) = both(and_stmt(part, next), grown)?;
-    Ok(all)
+    grown.and(and_stmt(part, next))
 }
 
 /// A statement that does nothing.
@@ -207,8 +201,7 @@ fn repetition(
 {
     let times = count_made(alloc, count, names, made)?;
     let inner = stmt(alloc, body, names, made)?;
-    let part = repeat_stmt(alloc, times, inner)?;
-    Ok(part)
+    repeat_stmt(alloc, times, inner)
 }
 
 /// What is known of statements one behind the other, with their first refusal. `made`: the object variables that have an object before them, and with more at its end those behind them.

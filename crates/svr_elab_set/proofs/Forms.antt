@@ -56,10 +56,6 @@ branch_else_is n a u r x y w z test met unmet h p q i j k =
 pub looped : (n m : Space) (ls ks : List LoopName) → ls ≡ ks → with_loops n (map loop_of ks) ≡ m → with_loops n (map loop_of ls) ≡ m
 looped n m ls ks e h = ap (λ (ls : List LoopName). with_loops n (map loop_of ls)) e ∙ h
 
-pub in_loops_is : (n i j : Space) (a : Around) (vs : List ℕ) (b : ItemsElab (Option Fault)) (body : SetTree)
-    → b ≡ spec.items_in first_one i a body → i ≡ j → j ≡ spec.in_body n vs → b ≡ spec.items_in first_one (spec.in_body n vs) a body
-in_loops_is n i j a vs b body h e f = h ∙ ap (λ (i : Space). spec.items_in first_one i a body) (e ∙ f)
-
 pub foreach_is : (n : Space) (a o : Around) (vs : List ℕ) (r : ItemElab (Option Fault)) (x s : Elab (Option Fault)) (b : ItemsElab (Option Fault)) (array : ExprTree) (body : SetTree)
     → r ≡ spec.foreach_item first_one s vs b → s ≡ sole first_one x → x ≡ elab first_one n array → o ≡ spec.over a x → b ≡ spec.items_in first_one (spec.in_body n vs) o body
     → r ≡ spec.item first_one n a (tree.foreach 0 array vs body)

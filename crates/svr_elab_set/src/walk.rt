@@ -99,23 +99,7 @@ fn sole_part(alloc: Global, e: &Expr, names: &NameSpace<'_, '_>) -> Result<Part,
     Ok(sole(elab(alloc, e, names)?))
 }
 
-/// The members of a set whose values differ by pairs.
-fn members(alloc: Global, list: &[Expr], names: &NameSpace<'_, '_>) -> Result<UniquePart, NoMemory>
-    requires vars { length names.now.vars.now.entries < 2 ^ 32 }
-    requires loops { AllLoopsFit (length names.now.loops.now) (expr_trees list.now) }
-    requires members { MembersFit (space_of names.now) }
-    requires literals { AllFit (expr_trees list.now) }
-    ensures { IfOk result (λ u. seen.unique_part u ≡ spec.members first_one (space_of names.now) (spec.no_members first_one) (expr_trees list.now)) }
-{
-    let mut unique = UniquePart::none(alloc);
-    for e in list {
-        let part = sole_part(alloc, e, names)?;
-        unique = and_member(unique, part)?;
-    }
-    Ok(unique)
-}
-
-/// `unique { members }`
+/// `unique { members }`: a set whose values differ by pairs.
 fn unique(alloc: Global, list: &[Expr], names: &NameSpace<'_, '_>) -> Result<ItemPart, NoMemory>
     requires vars { length names.now.vars.now.entries < 2 ^ 32 }
     requires loops { AllLoopsFit (length names.now.loops.now) (expr_trees list.now) }
@@ -123,7 +107,12 @@ fn unique(alloc: Global, list: &[Expr], names: &NameSpace<'_, '_>) -> Result<Ite
     requires literals { AllFit (expr_trees list.now) }
     ensures { IfOk result (λ p. seen.item_part p ≡ spec.unique_item first_one (spec.members first_one (space_of names.now) (spec.no_members first_one) (expr_trees list.now))) }
 {
-    Ok(unique_item(members(alloc, list, names)?))
+    let mut known = UniquePart::none(alloc);
+    for e in list {
+        let part = sole_part(alloc, e, names)?;
+        known = and_member(known, part)?;
+    }
+    Ok(unique_item(known))
 }
 
 /// `disable soft target`
@@ -291,7 +280,7 @@ fn in_loops(
 {
     let loops = in_body(alloc, names, vars)?;
     let inner = names.with_loops(loops.as_slice());
-    Ok(set(alloc, body, &inner, around)?)
+    set(alloc, body, &inner, around)
 }
 
 /// What is known of the items of a set.

@@ -3,16 +3,14 @@
 ghost use Rattle.std.specs.Prelude.{◌≡◌, ◌+◌, ◌*◌, ◌≤◌, ◌<◌, ◌^◌, ◌<ℤ◌, pos, IfOk, IfSome, ℕ, List, [], option_map, map};
 ghost use Rattle.svr_typed.specs.StmtTerm.{stmt_term};
 ghost use Rattle.svr_elab_fault.specs.Refusals.{first_one};
-ghost use Rattle.svr_elab_part.specs.Shapes.{and_more};
 ghost use Rattle.svr_elab_type.specs.Seen.{constant_part};
 ghost use Rattle.svr_elab_stmt.specs.Stmts as spec;
 ghost use Rattle.svr_elab_stmt.specs.Seen.{stmt_part, stmts_part};
 
-use crate::part::{StmtPart, StmtsPart};
+use crate::part::{StmtPart, StmtsPart, and_more};
 use sqlite_items::Items;
 use std::alloc::Global;
 use svr_elab_fault::earlier;
-use svr_elab_form::pushed;
 use svr_elab_type::{Constant, elements};
 use svr_limits::STATEMENT_LIMIT;
 use svr_typed::{NoMemory, TStmt};
@@ -127,18 +125,6 @@ pub fn no_stmts(alloc: Global) -> StmtsPart
     }
 }
 
-fn and_tree(
-    trees: Option<Items<TStmt>>,
-    tree: Option<TStmt>,
-) -> Result<Option<Items<TStmt>>, NoMemory>
-    ensures { IfOk result (λ r. option_map (map stmt_term) r ≡ and_more (option_map (map stmt_term) trees) (option_map stmt_term tree)) }
-{
-    match trees.zip(tree) {
-        None => Ok(None),
-        Some((trees, tree)) => Ok(Some(pushed(trees, tree)?)),
-    }
-}
-
 /// One more statement behind others.
 pub fn and_stmt(before: StmtsPart, stmt: StmtPart) -> Result<StmtsPart, NoMemory>
     requires before { before.count ≤ STATEMENT_LIMIT + 1 }
@@ -149,7 +135,7 @@ pub fn and_stmt(before: StmtsPart, stmt: StmtPart) -> Result<StmtsPart, NoMemory
     let count = capped(u128::from(before.count) + u128::from(stmt.count));
     let fault = earlier(before.fault, stmt.fault);
     Ok(StmtsPart {
-        trees: and_tree(before.trees, stmt.tree)?,
+        trees: and_more(before.trees, stmt.tree)?,
         fault,
         count,
     })

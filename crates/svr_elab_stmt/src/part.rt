@@ -1,13 +1,15 @@
 // What is known of statements.
 
-ghost use Rattle.std.specs.Prelude.{◌≡◌};
+ghost use Rattle.std.specs.Prelude.{◌≡◌, IfOk};
 ghost use Rattle.svr_elab_fault.specs.Refusals.{first_one};
+ghost use Rattle.svr_elab_part.specs.Shapes as shapes;
 ghost use Rattle.svr_elab_stmt.specs.Stmts as spec;
 ghost use Rattle.svr_elab_stmt.specs.Seen.{stmt_part};
 
 use sqlite_items::Items;
 use svr_elab_fault::{Fault, earlier};
-use svr_typed::{TExpr, TStmt};
+use svr_elab_form::pushed;
+use svr_typed::{NoMemory, TExpr, TStmt};
 
 /// What is known of a statement.
 #[derive(Drop)]
@@ -37,6 +39,19 @@ pub struct ValuesPart {
     pub fault: Option<Fault>,
     /// How many values there are.
     pub many: u32,
+}
+
+/// A list with one more value behind it, where both are known.
+pub(crate) fn and_more<T: Drop>(
+    list: Option<Items<T>>,
+    value: Option<T>,
+) -> Result<Option<Items<T>>, NoMemory>
+    ensures { IfOk result (λ l. l ≡ shapes.and_more list value) }
+{
+    match list.zip(value) {
+        None => Ok(None),
+        Some((list, value)) => Ok(Some(pushed(list, value)?)),
+    }
 }
 
 impl StmtPart {

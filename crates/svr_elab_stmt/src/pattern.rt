@@ -1,40 +1,29 @@
 // The values of an assignment pattern (IEEE 1800-2017, 10.9.1).
 
-ghost use Rattle.std.specs.Prelude.{◌≡◌, ◌+◌, ◌<◌, ◌^◌, IfOk, length, option_map, map};
-ghost use Rattle.svr_typed.specs.ExprTerm.{expr_term};
+ghost use Rattle.std.specs.Prelude.{◌≡◌, ◌+◌, ◌<◌, ◌^◌, IfOk, length};
 ghost use Rattle.svr_tree.specs.ExprTree.{expr_trees};
 ghost use Rattle.svr_elab_fault.specs.Refusals.{first_one};
 ghost use Rattle.svr_elab_names.specs.Tables.{space_of};
 ghost use Rattle.svr_elab_part.specs.Seen.{part_of};
-ghost use Rattle.svr_elab_part.specs.Shapes.{and_more};
 ghost use Rattle.svr_elab_part.specs.Fits.{MembersFit};
 ghost use Rattle.svr_elab_stmt.specs.Stmts as spec;
 ghost use Rattle.svr_elab_stmt.specs.Seen.{values_part};
 ghost use Rattle.svr_elab_stmt.specs.Fits.{ValuesFit, values_in};
 
 use crate::assignment::is_not;
-use crate::part::ValuesPart;
+use crate::part::{ValuesPart, and_more};
 use sqlite_items::Items;
 use std::alloc::Global;
 use svr_elab_expr::value;
 use svr_elab_fault::{earlier, when};
-use svr_elab_form::pushed;
 use svr_elab_names::NameSpace;
 use svr_elab_part::Part;
 use svr_refusal::Refusal;
 use svr_tree::Expr;
-use svr_typed::{NoMemory, TExpr};
-
-fn and_expr(list: Option<Items<TExpr>>, e: Option<TExpr>) -> Result<Option<Items<TExpr>>, NoMemory>
-    ensures { IfOk result (λ r. option_map (map expr_term) r ≡ and_more (option_map (map expr_term) list) (option_map expr_term e)) }
-{
-    match list.zip(e) {
-        None => Ok(None),
-        Some((list, e)) => Ok(Some(pushed(list, e)?)),
-    }
-}
+use svr_typed::NoMemory;
 
 /// One more value. `members`: the enum of the elements.
+#[tactic(auto, using(crate::proofs::Forms::more_of))]
 fn and_value(members: Option<u32>, values: ValuesPart, part: Part) -> Result<ValuesPart, NoMemory>
     requires { values.many + 1 < 2 ^ 32 }
     ensures value { IfOk result (λ v. values_part v ≡ spec.and_value first_one members (values_part values) (part_of part)) }
@@ -45,7 +34,7 @@ fn and_value(members: Option<u32>, values: ValuesPart, part: Part) -> Result<Val
     let fault = earlier(values.fault, earlier(part.fault, other));
     let many = values.many + 1;
     Ok(ValuesPart {
-        trees: and_expr(values.trees, part.tree)?,
+        trees: and_more(values.trees, part.tree)?,
         fault,
         many,
     })

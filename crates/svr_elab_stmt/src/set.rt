@@ -20,14 +20,10 @@ fn inner_index(node: TNode) -> Option<TExpr>
 {
     match node {
         TNode::Element(_, index) => Some(index.into_inner()),
-        TNode::Number { .. } | TNode::Prop(_) | TNode::Cell(_, _, _, _) | TNode::Size(_, _) => {
+        other => {
+            drop(other);
             None
         }
-        TNode::Script(_) | TNode::Loop(_) | TNode::Reduce(_, _, _) | TNode::Of(_, _) => None,
-        TNode::Select { last: None, .. } | TNode::Select { last: Some(_), .. } => None,
-        TNode::Unary { .. } | TNode::Binary { .. } | TNode::Choice { .. } => None,
-        TNode::Inside { .. } | TNode::Join { .. } => None,
-        TNode::Copies { .. } | TNode::Sign { .. } => None,
     }
 }
 
@@ -38,14 +34,10 @@ fn node_index(node: TNode) -> Option<TExpr>
 {
     match node {
         TNode::Of(_, inner) => inner_index(inner.into_inner().node),
-        TNode::Number { .. } | TNode::Prop(_) | TNode::Cell(_, _, _, _) | TNode::Size(_, _) => {
+        other => {
+            drop(other);
             None
         }
-        TNode::Script(_) | TNode::Loop(_) | TNode::Reduce(_, _, _) | TNode::Element(_, _) => None,
-        TNode::Select { last: None, .. } | TNode::Select { last: Some(_), .. } => None,
-        TNode::Unary { .. } | TNode::Binary { .. } | TNode::Choice { .. } => None,
-        TNode::Inside { .. } | TNode::Join { .. } => None,
-        TNode::Copies { .. } | TNode::Sign { .. } => None,
     }
 }
 

@@ -1,5 +1,6 @@
 -- A member, an enum and a type that are declared, put together of their parts.
-use Rattle.std.proofs.Common.{◌≡◌, ℕ, ◌+◌, ◌<◌, ◌≤◌, ℤ, pos, Bool, nat_le, List, [], ◌∷◌, ◌++◌, map, length, get_or, drop, Option, Some, option_map, refl, sym, ap, subst, ◌∙◌, arith}
+use Rattle.std.proofs.Common.{◌≡◌, ℕ, ◌+◌, ◌<◌, ◌≤◌, ℤ, pos, Bool, nat_le, List, [], ◌∷◌, ◌++◌, map, length, get_or, drop, Option, Some, option_map, Result, Ok, Err, refl, sym, ap, subst, ◌∙◌, arith}
+use Rattle.std.specs.Prelude.{IfOk}
 use Rattle.std.proofs.lemmas.List.{at_drop_more, length_push}
 use Rattle.svr_typed.specs.declared.NumType.{NumType}
 use Rattle.svr_typed.specs.declared.EnumMember.{EnumMember}
@@ -21,6 +22,17 @@ Known = EnumElab (Option Fault)
 
 abbrev Globals : Type 0
 Globals = GlobalsElab (Option Fault)
+
+-- what the last call answers, told in other words
+pub told_as : {A B E : Type 0} (f : A → B) (r : Result A E) (x y : B) → IfOk r (λ s. f s ≡ x) → x ≡ y → IfOk r (λ s. f s ≡ y)
+told_as f (Ok s) x y h e = h ∙ e
+told_as f (Err v) x y h e = tt
+
+pub first_of : {A B : Type 0} (p q : A × B) → p ≡ q → p.0 ≡ q.0
+first_of {A = A} {B = B} p q h = ap (λ (p : A × B). p.0) h
+
+pub second_of : {A B : Type 0} (p q : A × B) → p ≡ q → p.1 ≡ q.1
+second_of {A = A} {B = B} p q h = ap (λ (p : A × B). p.1) h
 
 -- one more member, by each of its parts
 pub member_is : (base : Option Vector) (text : ℕ → List ℕ) (cs : List ClassName) (name at : ℕ) (q : List ℕ) (gs hs : List GlobalName) (x next after : Option ℤ) (xs ys : List ℤ) (ms ns : List EnumMember)

@@ -40,6 +40,11 @@ fn constant_of(alloc: Global, part: &Part) -> Constant
     }
 }
 
+/// Lets go what is known of an expression, so that no crate that calls this has to show how a tree is let go.
+pub fn let_go(part: Part) {
+    drop(part);
+}
+
 /// The number that an expression is to be.
 #[tactic(auto, using(svr_elab_part::proofs::Valued::has_value))]
 pub fn constant_at(alloc: Global, e: &Expr, names: &NameSpace<'_, '_>) -> Result<Constant, NoMemory>
@@ -53,7 +58,7 @@ pub fn constant_at(alloc: Global, e: &Expr, names: &NameSpace<'_, '_>) -> Result
 {
     let part = value(alloc, e, names)?;
     let number = constant_of(alloc, &part);
-    drop(part);
+    let_go(part);
     Ok(number)
 }
 

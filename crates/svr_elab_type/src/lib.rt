@@ -10,7 +10,7 @@ mod global;
 mod typedef;
 mod types;
 
-pub use constant::{Constant, constant_at, elements, is_below, is_other};
+pub use constant::{Constant, constant_at, elements, is_below, is_other, let_go};
 pub use enums::{EnumPart, enum_members};
 pub use global::{NoNames, and_name, declaring, double};
 pub use typedef::{Globals, type_decl};

@@ -88,29 +88,6 @@ fn with_type<'a>(
     })
 }
 
-fn plain_type<'a>(
-    names: &Names<'a>,
-    globals: Globals<'a>,
-    name: u32,
-    part: TypePart,
-) -> Result<Globals<'a>, NoMemory>
-    requires kind { KindFits part.kind }
-    requires members { MembersFit (spec.declaring (names_of names.now) (map global_of globals.names.entries) (map class_of globals.classes)) }
-    ensures value { IfOk result (λ s. globals_part (names_of names.now) s ≡ spec.plain_type first_one (globals_part (names_of names.now) globals.entry) name (type_part part)) }
-    ensures members { IfOk result (λ s. MembersFit (spec.declaring (names_of names.now) (map global_of s.names.entries) (map class_of s.classes))) }
-    ensures enums { IfOk result (λ s. s.enums ≡ globals.entry.enums) }
-    ensures classes { IfOk result (λ s. s.classes ≡ globals.entry.classes) }
-{
-    let fault = earlier(globals.fault, part.fault);
-    let globals = Globals {
-        names: globals.names,
-        classes: globals.classes,
-        enums: globals.enums,
-        fault,
-    };
-    Ok(with_type(names, globals, name, part.kind)?)
-}
-
 fn enum_type<'a>(
     alloc: Heap,
     names: &Names<'a>,
@@ -147,21 +124,21 @@ fn enum_type<'a>(
         start,
         list,
     );
-    let (classes, (enums, part)) = beside(globals.classes, beside(globals.enums, part))?;
+    let ((classes, enums), part) = beside((globals.classes, globals.enums), part)?;
     drop(part.numbers);
     let one = EnumType {
         base: enum_base(base.kind),
         members: part.members,
     };
     let enums = pushed(enums, one);
-    let (classes, (table, enums)) = beside(classes, beside(part.globals, enums))?;
+    let ((classes, table), enums) = beside((classes, part.globals), enums)?;
     let globals = Globals {
         names: table,
         classes,
         enums,
         fault: part.fault,
     };
-    Ok(with_type(names, globals, name, kind)?)
+    with_type(names, globals, name, kind)
 }
 
 fn enum_decl<'a>(
@@ -187,7 +164,7 @@ fn enum_decl<'a>(
         &declaring(*names, &globals.names, globals.classes.as_slice(), &*none),
     );
     let (globals, base) = beside(globals, base)?;
-    Ok(enum_type(
+    enum_type(
         alloc,
         names,
         none,
@@ -195,7 +172,7 @@ fn enum_decl<'a>(
         name,
         base,
         decl.members.as_slice(),
-    )?)
+    )
 }
 
 fn integer_decl<'a>(
@@ -219,8 +196,9 @@ fn integer_decl<'a>(
         kind,
         &declaring(*names, &globals.names, globals.classes.as_slice(), &*none),
     );
-    let (globals, part) = beside(globals, part)?;
-    Ok(plain_type(names, globals, name, part)?)
+    let (mut globals, part) = beside(globals, part)?;
+    globals.fault = earlier(globals.fault, part.fault);
+    with_type(names, globals, name, part.kind)
 }
 
 /// One more type. `names`: what the tokens spell; `none`: what no declaration can name.

@@ -1,5 +1,6 @@
 -- What is known of variables and of their values, put together of what is known of their parts.
-use Rattle.std.proofs.Common.{◌≡◌, ℕ, ◌+◌, ◌<◌, ◌≤◌, Bool, false, not, List, [], ◌∷◌, ◌++◌, map, length, get_or, drop, Option, Some, None, refl, sym, ap, subst, ◌∙◌, arith}
+use Rattle.std.proofs.Common.{◌≡◌, ℕ, ◌+◌, ◌<◌, ◌≤◌, Bool, false, not, List, [], ◌∷◌, ◌++◌, map, length, get_or, drop, Option, Some, None, Result, Ok, Err, refl, sym, ap, subst, ◌∙◌, arith}
+use Rattle.std.specs.Prelude.{IfOk}
 use Rattle.std.proofs.lemmas.List.{at_drop_more, drop_all, length-map}
 use Rattle.svr_tree.specs.declared.VarDeclarator.{VarDeclarator}
 use Rattle.svr_tree.specs.declared.VarDecl.{VarDecl}
@@ -30,6 +31,11 @@ One = StmtElab (Option Fault)
 
 abbrev Many : Type 0
 Many = StmtsElab (Option Fault)
+
+-- what the last call answers, told in other words
+pub told_as : {A B E : Type 0} (f : A → B) (r : Result A E) (x y : B) → IfOk r (λ s. f s ≡ x) → x ≡ y → IfOk r (λ s. f s ≡ y)
+told_as f (Ok s) x y h e = h ∙ e
+told_as f (Err v) x y h e = tt
 
 -- the first of what is left of a list
 pub rest_is : {A B : Type 0} (f : A → B) (xs : List A) (i : ℕ) (x : A) → i < length xs → x ≡ get_or xs i x → map f (drop i xs) ≡ f x ∷ map f (drop (i + 1) xs)

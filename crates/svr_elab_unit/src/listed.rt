@@ -84,8 +84,7 @@ fn listed_call(
 {
     let path = object_path(&call.path, names);
     let class = path_class(path);
-    listed_in(class, &call.args, names, homes)?;
-    Ok(())
+    listed_in(class, &call.args, names, homes)
 }
 
 fn listed_right(

@@ -76,8 +76,7 @@ fn and_top(
     ensures most { IfOk result (λ p. p.count ≤ STATEMENT_LIMIT + 1) }
 {
     let within = with_limit(at, part.count, next);
-    let all = and_next(made, part, within)?;
-    Ok(all)
+    and_next(made, part, within)
 }
 
 /// The statements of the initial block, behind those before.
@@ -146,8 +145,7 @@ fn unit_values<'a>(
     let outer = unit.outer.as_slice();
     let part = decls_valued(alloc, start, stands, outer, names, made)?;
     let rest = behind(stands, outer.len());
-    let all = decls_valued(alloc, part, rest, unit.inner.as_slice(), names, made)?;
-    Ok(all)
+    decls_valued(alloc, part, rest, unit.inner.as_slice(), names, made)
 }
 
 /// The statements of a script, behind those object variables that have an object. `stands`: what the variables of each declaration are; `names` has all variables.
@@ -170,8 +168,7 @@ fn run_behind(
 {
     let valued = unit_values(alloc, stands, unit, names, made)?;
     drop(valued.vars);
-    let all = tops(alloc, valued.stmts, unit.stmts.as_slice(), names, made)?;
-    Ok(all)
+    tops(alloc, valued.stmts, unit.stmts.as_slice(), names, made)
 }
 
 /// What is known of the statements of a script. `stands`: what the variables of each declaration are; `names` has all variables.
@@ -191,6 +188,5 @@ pub fn run(
     ensures { IfOk result (λ ss. stmts_part (spec.run first_one (space_of names.now) stands.now (unit_tree unit.now)).made ss ≡ spec.run first_one (space_of names.now) stands.now (unit_tree unit.now)) }
 {
     let mut made = IndexSet::new(alloc);
-    let all = run_behind(alloc, stands, unit, names, &mut made)?;
-    Ok(all)
+    run_behind(alloc, stands, unit, names, &mut made)
 }

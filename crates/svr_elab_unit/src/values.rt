@@ -69,8 +69,7 @@ fn left_side(alloc: Global, var: Declared) -> Result<Part, NoMemory>
     ensures { IfOk result (λ p. part_of p ≡ spec.left_side first_one var.name var.number var.stand) }
 {
     let meant = found(var.number, var.stand);
-    let left = path_part(alloc, var.name, var.name, false, meant)?;
-    Ok(left)
+    path_part(alloc, var.name, var.name, false, meant)
 }
 
 /// `target = e`
@@ -126,8 +125,7 @@ fn init_made(
 {
     let left = left_side(alloc, var)?;
     let inside = with_made(names, made);
-    let part = initialized(alloc, left, init, &inside)?;
-    Ok(part)
+    initialized(alloc, left, init, &inside)
 }
 
 /// The value of a variable, behind these statements. `names` has the variable itself.
@@ -148,8 +146,7 @@ fn and_init(
 {
     let stmt = init_made(alloc, var, init, names, made);
     let (stmts, stmt) = beside(stmts, stmt)?;
-    let all = and_next(made, stmts, stmt)?;
-    Ok(all)
+    and_next(made, stmts, stmt)
 }
 
 /// The value of a variable, where it has one, behind these statements. `names` has the variable itself.
@@ -193,8 +190,7 @@ fn value_behind(
     ensures most { IfOk result (λ ss. ss.count ≤ STATEMENT_LIMIT + 1) }
 {
     let inside = stmt_space(names, vars);
-    let all = and_value(alloc, stmts, var, init, &inside, made)?;
-    Ok(all)
+    and_value(alloc, stmts, var, init, &inside, made)
 }
 
 /// One more variable, and its value.
@@ -273,11 +269,7 @@ fn decl_valued<'a>(
 {
     match stands.get(place) {
         None => Ok(part),
-        Some(stand) => {
-            let list = decl.vars.as_slice();
-            let all = all_valued(alloc, part, *stand, list, names, made)?;
-            Ok(all)
-        }
+        Some(stand) => all_valued(alloc, part, *stand, decl.vars.as_slice(), names, made),
     }
 }
 

@@ -1,6 +1,6 @@
 // The variables of a script and their types (IEEE 1800-2017, 6.8 and 8.3).
 
-ghost use Rattle.std.specs.Prelude.{◌≡◌, ◌≤◌, ◌<◌, ◌+◌, ◌++◌, ◌∷◌, [], ◌^◌, length, map, IfOk};
+ghost use Rattle.std.specs.Prelude.{◌≡◌, ◌≤◌, ◌<◌, ◌+◌, ◌^◌, length, map, IfOk};
 ghost use Rattle.svr_token.specs.Names.{names_of};
 ghost use Rattle.svr_tree.specs.DeclTree.{type_tree, var_declarator_tree, var_tree};
 ghost use Rattle.svr_elab_fault.specs.Refusals.{first_one};
@@ -19,6 +19,7 @@ use std::alloc::Global;
 use svr_elab_decl::{Used, UsedPart, data_type};
 use svr_elab_expr::beside;
 use svr_elab_fault::{Fault, earlier, when};
+use svr_elab_form::pushed;
 use svr_elab_names::{NameSpace, Region, VarStand};
 use svr_limits::VARIABLE_LIMIT;
 use svr_refusal::Refusal;
@@ -158,15 +159,6 @@ fn and_vars<'a>(
     Ok(known)
 }
 
-/// What the variables of the declarations are, with one more declaration.
-fn and_stand(stands: Items<VarStand>, stand: VarStand) -> Result<Items<VarStand>, NoMemory>
-    ensures { IfOk result (λ ss. ss ≡ stands ++ stand ∷ []) }
-{
-    let mut all = stands;
-    all.push(stand)?;
-    Ok(all)
-}
-
 /// One more declaration, whose type is this.
 fn and_type<'a>(part: VarsPart<'a>, used: UsedPart) -> Result<VarsPart<'a>, NoMemory>
     ensures value { IfOk result (λ p. vars_part p ≡ spec.and_type first_one (vars_part part.entry) (used_part used)) }
@@ -174,7 +166,7 @@ fn and_type<'a>(part: VarsPart<'a>, used: UsedPart) -> Result<VarsPart<'a>, NoMe
 {
     let stand = stand_of(used.used);
     let fault = earlier(part.fault, used.fault);
-    let stands = and_stand(part.stands, stand);
+    let stands = pushed(part.stands, stand);
     let (vars, stands) = beside(part.vars, stands)?;
     Ok(VarsPart {
         vars,
@@ -223,8 +215,7 @@ fn type_behind(
     ensures { IfOk result (λ u. used_part u ≡ property.data_type first_one (spec.stmt_space (space_of names.now) (map var_of vars.now.entries)) (type_tree kind.now)) }
 {
     let inside = stmt_space(names, vars);
-    let used = data_type(alloc, kind, &inside)?;
-    Ok(used)
+    data_type(alloc, kind, &inside)
 }
 
 /// The variables of one more declaration.
@@ -244,8 +235,7 @@ fn var_decl<'a>(
     let (part, used) = beside(part, used)?;
     let stand = stand_of(used.used);
     let typed = and_type(part, used)?;
-    let all = and_vars(&names.names, typed, stand, decl.vars.as_slice())?;
-    Ok(all)
+    and_vars(&names.names, typed, stand, decl.vars.as_slice())
 }
 
 /// The variables of declarations, behind those before.

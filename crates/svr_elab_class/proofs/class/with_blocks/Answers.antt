@@ -18,4 +18,4 @@ loop-block-preserved c =
     let whole = map bytes_of c.args.first ++ map bytes_of list in
     let rest = at_drop_more (map bytes_of) list i no_name c.loop-block-test.true in
     let Known : List (List ℕ) → Type 0 = λ bs. map bytes_of cs ++ bs ≡ whole in
-    blocks_more cs _ k (map bytes_of (drop (i + 1) list)) whole c.in_ok-push.ensures.ok (subst Known rest c.loop-block.invariant)
+    blocks_more cs _ k (map bytes_of (drop (i + 1) list)) whole c.in_ok-blocks.ensures (subst Known rest c.loop-block.invariant)

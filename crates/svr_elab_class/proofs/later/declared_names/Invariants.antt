@@ -7,4 +7,4 @@ use Rattle.svr_elab_class.proofs.later.declared_names.Given as goal
 
 abbrev pub invariant-loop-declarator : goal.invariant-loop-declarator
 invariant-loop-declarator l = spec.declared_names (names_of l.names) (map bytes_of l.known.keys) (map declarator_tree (drop l.declarator-index l.list))
-    ≡ spec.declared_names (names_of l.names) (map bytes_of l.fn.found.keys) (map declarator_tree l.list)
+    ≡ spec.declared_names (names_of l.names) (map bytes_of l.fn.known.keys) (map declarator_tree l.list)

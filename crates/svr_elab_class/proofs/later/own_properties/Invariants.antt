@@ -7,4 +7,4 @@ use Rattle.svr_elab_class.proofs.later.own_properties.Given as goal
 
 abbrev pub invariant-loop-item : goal.invariant-loop-item
 invariant-loop-item l = spec.own_properties (names_of l.names) (map bytes_of l.known.keys) (map class_item_tree (drop l.item-index l.items))
-    ≡ spec.own_properties (names_of l.names) (map bytes_of l.fn.found.keys) (map class_item_tree l.items)
+    ≡ spec.own_properties (names_of l.names) (map bytes_of l.fn.known.keys) (map class_item_tree l.items)

@@ -1,4 +1,4 @@
-use Rattle.std.proofs.Common.{◌≡◌, Ok, sym, ◌∙◌}
+use Rattle.std.proofs.Common.{sym, ◌∙◌}
 use Rattle.svr_elab_class.specs.Seen.{class_part}
 use Rattle.svr_elab_class.proofs.Forms.{block_twice, block_more}
 use Rattle.svr_elab_class.proofs.property.with_block.Goals as goal
@@ -9,7 +9,7 @@ returns-then-is_among c =
 
 pub returns : goal.returns
 returns c =
-    let own : c.with_name.result ≡ Ok c.in_ok-props.own = rw c.in_ok-props.ensures.made at c.both-names.ensures.first in
-    let blocks : c.with_name-2.result ≡ Ok c.in_ok-props.blocks = rw c.in_ok-props.ensures.made at c.both-names.ensures.second in
-    rw c.in_ok-props.ensures.held
-    (block_more (class_part c.args.part) c.args.spelled.now c.args.name _ _ (rw own at c.with_name.ensures) (rw blocks at c.with_name-2.ensures) (sym c.is_among.ensures ∙ c.if-is_among.false))
+    let made = c.in_ok-part.ensures.made in
+    rw c.in_ok-part.ensures.held
+    (block_more (class_part c.args.part) c.args.spelled.now c.args.name _ _
+    (rw (rw made at c.both.ensures.first) at c.with_name-own.ensures) (rw (rw made at c.both.ensures.second) at c.with_name-blocks.ensures) (sym c.is_among.ensures ∙ c.if-is_among.false))

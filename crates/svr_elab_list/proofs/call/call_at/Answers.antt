@@ -9,5 +9,5 @@ use Rattle.svr_elab_list.proofs.call.call_at.Goals as goal
 
 pub returns-clause-value : goal.returns-clause-value
 returns-clause-value c =
-    call_is (space_of c.args.names.now) (path_seen c.args.path) c.args.answer c.args.args.now (option_map item_trees c.args.set.now) (object_seen c.args.object) _ _ (items_part c.in_ok-set.set) (stmt_part c.call_on.result)
-    c.call_on.ensures.value c.in_ok-list.ensures c.in_ok-refused.ensures c.in_ok-set.ensures
+    call_is (space_of c.args.names.now) (path_seen c.args.path) c.args.answer c.args.args.now (option_map item_trees c.args.set.now) (object_seen c.args.object) _ _ (items_part c.in_ok-list.set) (stmt_part c.call_on.result)
+    c.call_on.ensures.value (rw c.in_ok-list.ensures.first at c.call_list-named.ensures) c.in_ok-refused.ensures (rw c.in_ok-list.ensures.second at c.in_line_items.ensures)

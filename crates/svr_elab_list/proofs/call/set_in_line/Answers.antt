@@ -1,15 +1,21 @@
 use Rattle.std.proofs.Common.{[], map, sym}
+use Rattle.std.proofs.lemmas.Result.{IfOk-weaker}
 use Rattle.svr_tree.specs.ItemTree.{item_trees}
 use Rattle.svr_elab_names.specs.Tables.{space_of, prop_of}
+use Rattle.svr_elab_item.specs.Seen.{items_part}
 use Rattle.svr_elab_list.proofs.Fitting.{props_are, no_props}
 use Rattle.svr_elab_list.proofs.Forms.{in_line_is}
 use Rattle.svr_elab_list.proofs.call.set_in_line.Goals as goal
 
-pub returns-in_ok-items_alone-in-None : goal.returns-in_ok-items_alone-in-None
-returns-in_ok-items_alone-in-None c =
-    in_line_is (space_of c.args.names.now) c.args.class [] _ (item_trees c.args.list.now) c.in_ok-items_alone-in-None.ensures (sym (no_props c.args.names.now.classes.now c.args.class c.in-None.ensures.lookup.3))
+pub returns-in-None : goal.returns-in-None
+returns-in-None c =
+    IfOk-weaker c.items_alone.result _ _
+    (λ p h. in_line_is (space_of c.args.names.now) c.args.class [] (items_part p) (item_trees c.args.list.now) h (sym (no_props c.args.names.now.classes.now c.args.class c.in-None.ensures.lookup.3)))
+    c.items_alone.ensures
 
-pub returns-in_ok-items_with-in-Some : goal.returns-in_ok-items_with-in-Some
-returns-in_ok-items_with-in-Some c =
-    in_line_is (space_of c.args.names.now) c.args.class (map prop_of c.in-Some.class.now.props.entries) _ (item_trees c.args.list.now) c.in_ok-items_with-in-Some.ensures
-    (props_are c.args.names.now.classes.now c.args.class c.in-Some.class.now c.in-Some.ensures.lookup.1 c.in-Some.ensures.lookup.3.0)
+pub returns-in-Some : goal.returns-in-Some
+returns-in-Some c =
+    IfOk-weaker c.items_with.result _ _
+    (λ p h. in_line_is (space_of c.args.names.now) c.args.class (map prop_of c.in-Some.class.now.props.entries) (items_part p) (item_trees c.args.list.now) h
+    (props_are c.args.names.now.classes.now c.args.class c.in-Some.class.now c.in-Some.ensures.lookup.1 c.in-Some.ensures.lookup.3.0))
+    c.items_with.ensures

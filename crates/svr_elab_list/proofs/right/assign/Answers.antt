@@ -1,3 +1,4 @@
+use Rattle.std.proofs.lemmas.Result.{IfOk-weaker}
 use Rattle.svr_tree.specs.StmtTree.{right_tree}
 use Rattle.svr_elab_names.specs.Tables.{space_of}
 use Rattle.svr_elab_part.specs.Seen.{part_of}
@@ -7,4 +8,4 @@ use Rattle.svr_elab_list.proofs.right.assign.Goals as goal
 
 pub returns-clause-value : goal.returns-clause-value
 returns-clause-value c =
-    assign_is (space_of c.args.names.now) (part_of c.in_ok-left.left) _ (right_tree c.args.right.now) (stmt_part c.in_ok-part.part) c.in_ok-part.ensures.value c.in_ok-left.ensures
+    IfOk-weaker c.assignment.result _ _ (λ s h. assign_is (space_of c.args.names.now) (part_of c.in_ok-left.left) _ (right_tree c.args.right.now) (stmt_part s) h c.in_ok-left.ensures) c.assignment.ensures.value

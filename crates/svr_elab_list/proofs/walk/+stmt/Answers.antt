@@ -1,4 +1,5 @@
 use Rattle.std.proofs.Common.{◌≡◌, ◌+◌, drop, length, subst}
+use Rattle.std.proofs.lemmas.Result.{IfOk-weaker}
 use Rattle.svr_tree.specs.StmtTree.{StmtTrees, stmt_tree, stmt_trees}
 use Rattle.svr_elab_fault.specs.Refusals.{first_one}
 use Rattle.svr_elab_names.specs.Tables.{space_of}
@@ -18,8 +19,12 @@ block-returns-clause-made t c = kept _ _ _ _ c.truncate.ensures.keys c.len-befor
 
 pub repetition-returns-clause-value : goal.repetition-returns-clause-value
 repetition-returns-clause-value t c =
-    repeat_stmt_is (constant_part c.in_ok-times.times) _ (stmt_part c.in_ok-inner.inner) _ (stmt_part c.in_ok-part.part)
-    c.in_ok-part.ensures.value c.in_ok-times.ensures.value c.in_ok-inner.ensures.value
+    IfOk-weaker c.repeat_stmt.result _ _
+    (λ s h. repeat_stmt_is (constant_part c.in_ok-times.times) _ (stmt_part c.in_ok-inner.inner) _ (stmt_part s) h c.in_ok-times.ensures.value c.in_ok-inner.ensures.value)
+    c.repeat_stmt.ensures.value
+
+pub repetition-returns-clause-made : goal.repetition-returns-clause-made
+repetition-returns-clause-made t c = IfOk-weaker c.repeat_stmt.result _ _ (λ s h. c.in_ok-inner.ensures.made) c.repeat_stmt.ensures.most
 
 pub stmts-loop-each-init : goal.stmts-loop-each-init
 stmts-loop-each-init t c = record {

@@ -1,3 +1,4 @@
+use Rattle.std.proofs.lemmas.Result.{IfOk-weaker}
 use Rattle.svr_tree.specs.ExprTree.{expr_tree}
 use Rattle.svr_tree.specs.StmtTree.{right_tree}
 use Rattle.svr_elab_names.specs.Tables.{space_of}
@@ -7,4 +8,4 @@ use Rattle.svr_elab_list.proofs.walk.assign_made.Goals as goal
 
 pub returns-clause-value : goal.returns-clause-value
 returns-clause-value c =
-    assign_there (space_of c.with_made-inside.result) _ (expr_tree c.args.target.now) (right_tree c.args.right.now) (stmt_part c.in_ok-part.part) c.in_ok-part.ensures.value c.with_made-inside.ensures.space
+    IfOk-weaker c.assign.result _ _ (λ s h. assign_there (space_of c.with_made-inside.result) _ (expr_tree c.args.target.now) (right_tree c.args.right.now) (stmt_part s) h c.with_made-inside.ensures.space) c.assign.ensures.value

@@ -1,10 +1,14 @@
-use Rattle.std.proofs.Common.{◌≡◌, Ok}
+use Rattle.std.specs.Prelude.{IfOk}
+use Rattle.std.proofs.Common.{◌≡◌, ◌∙◌, Ok, subst}
 use Rattle.svr_tree.specs.ExprTree.{expr_tree}
 use Rattle.svr_tree.specs.ItemTree.{set_tree}
+use Rattle.svr_elab_fault.specs.Refusals.{first_one}
+use Rattle.svr_elab_names.specs.Names.{Space}
 use Rattle.svr_elab_names.specs.Tables.{space_of}
 use Rattle.svr_elab_part.specs.Seen.{part_of}
+use Rattle.svr_elab_item.specs.Items as spec
 use Rattle.svr_elab_item.specs.Seen.{item_part, items_part, else_part}
-use Rattle.svr_elab_set.proofs.Forms.{implies_is, branch_is, branch_else_is, looped, in_loops_is, foreach_is}
+use Rattle.svr_elab_set.proofs.Forms.{implies_is, branch_is, branch_else_is, looped, foreach_is}
 use Rattle.svr_elab_set.proofs.walk.+item.Goals as goal
 
 pub implication-returns : goal.implication-returns
@@ -35,5 +39,5 @@ foreach-returns t c =
 
 pub in_loops-returns : goal.in_loops-returns
 in_loops-returns t c =
-    in_loops_is (space_of c.args.names.now) (space_of c.with_loops-inner.result) _ c.args.around c.args.vars.now (items_part c.in_ok-set.field-0) (set_tree c.args.body.now) c.in_ok-set.ensures c.with_loops-inner.ensures.space
-    (looped (space_of c.args.names.now) _ c.as_slice.result.now c.in_ok-loops.loops c.as_slice.ensures c.in_ok-loops.ensures.space)
+    let Known : Space → Type 0 = λ n. IfOk c.set.result (λ p. items_part p ≡ spec.items_in first_one n c.args.around (set_tree c.args.body.now)) in
+    subst Known (c.with_loops-inner.ensures.space ∙ looped (space_of c.args.names.now) _ c.as_slice.result.now c.in_ok-loops.loops c.as_slice.ensures c.in_ok-loops.ensures.space) c.set.ensures

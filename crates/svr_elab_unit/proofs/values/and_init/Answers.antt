@@ -1,6 +1,6 @@
-use Rattle.std.proofs.Common.{◌≡◌, arith}
+use Rattle.std.proofs.Common.{◌≡◌, refl, arith}
 use Rattle.svr_elab_stmt.specs.Seen.{stmt_part, stmts_part}
-use Rattle.svr_elab_unit.proofs.Forms.{next_stmt}
+use Rattle.svr_elab_unit.proofs.Forms.{told_as, next_stmt}
 use Rattle.svr_elab_unit.proofs.values.and_init.Goals as goal
 
 pub and_next-requires-clause-before : goal.and_next-requires-clause-before
@@ -14,4 +14,5 @@ and_next-requires-clause-next c =
 pub returns-clause-value : goal.returns-clause-value
 returns-clause-value c =
     let x = c.in_ok-stmts in
-    next_stmt (stmts_part c.args.made.now.keys c.args.stmts) (stmt_part x.stmt) _ _ (rw x.ensures.held at c.in_ok-all.ensures.value) (rw x.ensures.made at c.init_made-stmt.ensures.value)
+    told_as (stmts_part c.and_next.new.made.keys) c.and_next.result _ _ (rw x.ensures.held at c.and_next.ensures.value)
+    (next_stmt (stmts_part c.args.made.now.keys c.args.stmts) (stmt_part x.stmt) _ _ refl (rw x.ensures.made at c.init_made-stmt.ensures.value))
