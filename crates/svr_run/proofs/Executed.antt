@@ -57,11 +57,11 @@ plain_executes d opts (list xs) s h = both h
 
 -- ---- calls
 
-pub called : (x : CallStmt) → stmt_term (Call x) ≡ call (call_term x)
-called x = search (rules, the_lemmas)
+pub call_is : (x : CallStmt) → stmt_term (Call x) ≡ call (call_term x)
+call_is x = search (rules, the_lemmas)
 
 pub call_order : (x : CallStmt) → in_order (stmt_term (Call x)) ≡ call (call_term x) ∷ []
-call_order x = ap in_order (called x)
+call_order x = ap in_order (call_is x)
 
 -- ---- `repeat`
 

@@ -3,7 +3,6 @@
 ghost use Rattle.std.specs.Prelude.{◌≡◌, ◌+◌, ◌<◌, ◌≤◌, ◌^◌, ◌∷◌, [], false, length, OnOk, OnErr, IfErr};
 ghost use Rattle.svr_typed.specs.StmtTerm as term;
 ghost use Rattle.svr_typed.specs.StmtTerm.{call_term, design_term};
-ghost use Rattle.svr_effect.specs.Inherited.{AreClasses};
 ghost use Rattle.svr_frame.specs.Frame.{frame_term};
 ghost use Rattle.svr_frame.specs.Sound.{IsSound};
 ghost use Rattle.svr_call.specs.Items.{is_one};
@@ -15,7 +14,7 @@ ghost use Rattle.svr_run.specs.Telling.{Tells, TellsFront, counted, printing_of,
 ghost use Rattle.svr_run.specs.Events.{AreNamed, IsCause, IsNotTold, IsTold, end_in, event_in, names_at};
 ghost use Rattle.svr_run.specs.Fitting.{ZeroFits};
 ghost use Rattle.svr_run.specs.Watching.{watcher};
-ghost use Rattle.svr_run.specs.Reached.{Breaks, Goes, Halts, IsBefore, IsNext, Steps, state_of};
+ghost use Rattle.svr_run.specs.Reached.{Halts, IsNext, Steps, state_of};
 ghost use Rattle.svr_run.specs.Repeating.{SameModes};
 
 use crate::conflict::{Contradiction, conflict_of};
@@ -29,7 +28,6 @@ use svr_call::Outcome;
 use svr_edge::Sink;
 use svr_effect::class_of_var;
 use svr_frame::Frame;
-use svr_frame_of::make_frame;
 use svr_randomize::randomize;
 use svr_typed::CallStmt;
 use svr_world::Watch;
@@ -115,9 +113,11 @@ fn answered<K: Sink, J: Sink>(
         outcome,
         script.opts.budget,
     )?;
-    settle(
+    let told = settle(
         alloc, script, progress, call, frame, outcome, &conflict, out, journal,
-    )
+    );
+    drop(conflict);
+    told
 }
 
 /// The answer of a call in its frame. The watch takes its sample before the answer is told. No mode of the object is another one afterwards.
@@ -157,7 +157,7 @@ pub(crate) fn answer<K: Sink, J: Sink, W: Watch>(
     let class = class_of_var(script.design, call.object);
     let values = run.progress.world.values(call.object);
     sample(&mut run.watch, class, values, &outcome);
-    answered(
+    let told = answered(
         alloc,
         script,
         &mut run.progress,
@@ -166,32 +166,7 @@ pub(crate) fn answer<K: Sink, J: Sink, W: Watch>(
         &outcome,
         out,
         journal,
-    )
-}
-
-/// Executes a call: it answers, and what it tells is written.
-pub(crate) fn execute_call<K: Sink, J: Sink, W: Watch>(
-    alloc: Global,
-    script: &Script<'_>,
-    run: &mut Watched<W>,
-    call: &CallStmt,
-    out: &mut K,
-    journal: &mut J,
-) -> Result<(), Stop>
-    requires classes { AreClasses (design_term script.now.design.now) script.now.classes.now }
-    requires allowed { AreAllowed script.now.opts }
-    requires can_run { CanRun (design_term script.now.design.now) script.now.opts }
-    requires going { run.old.progress.limited ≡ false }
-    requires before { IsBefore (watcher W.content W.step W.left) (design_term script.now.design.now) script.now.opts script.now.extra (term.call (call_term call.now) ∷ []) run.old
-        (sinks (K.written out.old) (K.faults out.old) (J.written journal.old) (J.faults journal.old)) }
-    ensures goes { OnOk result (Goes (watcher W.content W.step W.left) (design_term script.now.design.now) script.now.opts script.now.extra (term.call (call_term call.now) ∷ []) run.old
-        (sinks (K.written out.old) (K.faults out.old) (J.written journal.old) (J.faults journal.old)) run.new
-        (sinks (K.written out.new) (K.faults out.new) (J.written journal.new) (J.faults journal.new))) }
-    ensures breaks { IfErr result (λ why. Breaks (watcher W.content W.step W.left) (design_term script.now.design.now) script.now.opts script.now.extra (term.call (call_term call.now) ∷ []) run.old
-        (sinks (K.written out.old) (K.faults out.old) (J.written journal.old) (J.faults journal.old)) why
-        (sinks (K.written out.new) (K.faults out.new) (J.written journal.new) (J.faults journal.new))) }
-{
-    let flat = script.classes.of_var(script.design, call.object);
-    let frame = make_frame(alloc, script.design, flat, &run.progress.world, call)?;
-    answer(alloc, script, run, call, &frame, out, journal)
+    );
+    drop(outcome);
+    told
 }

@@ -5,9 +5,9 @@ ghost use Rattle.svr_typed.specs.StmtTerm.{call_term};
 ghost use Rattle.svr_frame.specs.Frame.{frame_term};
 ghost use Rattle.svr_frame.specs.Sound.{IsSound, SizesFit};
 ghost use Rattle.svr_phase.specs.Chosen.{AreCyclicValues};
-ghost use Rattle.svr_script.specs.Conflicts.{IsConflictAt, IsConflictIf, IsConflictIn, IsConflictOf};
+ghost use Rattle.svr_script.specs.Conflicts.{IsConflictAt, IsConflictIf, IsConflictOf};
 ghost use Rattle.svr_run.specs.Events.{AreNamed, end_in, names_at};
-ghost use Rattle.svr_run.specs.Fitting.{FitsIn, ZeroFits};
+ghost use Rattle.svr_run.specs.Fitting.{ZeroFits};
 
 use sqlite_items::Items;
 use std::alloc::Global;
@@ -23,21 +23,6 @@ use svr_world::World;
 pub(crate) struct Contradiction {
     pub(crate) names: Items<Text>,
     pub(crate) end: ConflictEnd,
-}
-
-/// The names of the active items of a call.
-fn names_of(
-    alloc: Global,
-    world: &World,
-    call: &CallStmt,
-    frame: &Frame,
-) -> Result<Items<Text>, NoMemory>
-    requires { length (frame_term frame.now).class.blocks < 2 ^ 32 }
-    ensures { IfOk result (λ names. names ≡ names_at (frame_term frame.now).class world.now (call_term call.now)) }
-{
-    let blocks = frame.class.blocks.as_slice();
-    let in_line = call.with.as_slice();
-    Ok(item_names(alloc, blocks, in_line, world, call.object)?)
 }
 
 /// The search at the sizes and with the cyclic values that a call has chosen.
@@ -58,37 +43,14 @@ fn conflict_at(
     ensures end { IfOk result (λ found. IsConflictAt (frame_term frame.now) sizes.now chosen.now budget (end_in found)) }
     ensures names { IfOk result (AreNamed (names_at (frame_term frame.now).class world.now (call_term call.now))) }
 {
-    let names = names_of(alloc, world, call, frame)?;
+    let blocks = frame.class.blocks.as_slice();
+    let in_line = call.with.as_slice();
+    let names = item_names(alloc, blocks, in_line, world, call.object)?;
     let end = conflict_set(alloc, frame, chosen, sizes, budget)?;
     Ok(Some(Contradiction { names, end }))
 }
 
-/// That of a call that answered 0 in this phase: in the last one alone.
-fn conflict_in(
-    alloc: Global,
-    world: &World,
-    call: &CallStmt,
-    frame: &Frame,
-    phase: Part,
-    sizes: &[u32],
-    chosen: &[(u32, u64)],
-    budget: u64,
-) -> Result<Option<Contradiction>, NoMemory>
-    requires sound { IsSound (frame_term frame.now) }
-    requires few_blocks { length (frame_term frame.now).class.blocks < 2 ^ 32 }
-    requires fits { FitsIn phase (frame_term frame.now) sizes.now chosen.now }
-    requires budget { 1 ≤ budget }
-    ensures end { IfOk result (λ found. IsConflictIn phase (frame_term frame.now) sizes.now chosen.now budget (end_in found)) }
-    ensures names { IfOk result (AreNamed (names_at (frame_term frame.now).class world.now (call_term call.now))) }
-{
-    match phase {
-        Part::Randc => Ok(None),
-        Part::Sizes => Ok(None),
-        Part::All => conflict_at(alloc, world, call, frame, sizes, chosen, budget),
-    }
-}
-
-/// That of a call that answered so.
+/// That of a call that answered so: of a 0 in the last phase alone.
 fn conflict_behind(
     alloc: Global,
     world: &World,
@@ -110,16 +72,19 @@ fn conflict_behind(
             chosen,
             sizes,
             ..
-        } => conflict_in(
-            alloc,
-            world,
-            call,
-            frame,
-            *phase,
-            sizes.as_slice(),
-            chosen.as_slice(),
-            budget,
-        ),
+        } => match phase {
+            Part::Randc => Ok(None),
+            Part::Sizes => Ok(None),
+            Part::All => conflict_at(
+                alloc,
+                world,
+                call,
+                frame,
+                sizes.as_slice(),
+                chosen.as_slice(),
+                budget,
+            ),
+        },
         Outcome::One { .. } => Ok(None),
         Outcome::GaveUp { .. } => Ok(None),
         Outcome::TooHeavy { .. } => Ok(None),

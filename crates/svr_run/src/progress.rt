@@ -13,7 +13,7 @@ use svr_typed::{Design, NoMemory};
 use svr_world::World;
 
 /// How many calls answered 1, answered 0 and were given up. One that met a limit is not counted.
-#[derive(Clone, Copy, PartialEq, Eq)]
+#[derive(Clone, Copy)]
 pub struct Counts {
     pub ones: u64,
     pub zeros: u64,

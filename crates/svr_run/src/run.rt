@@ -4,13 +4,13 @@ ghost use Rattle.std.specs.Prelude.{◌≡◌, ◌≤◌, length, Some, IfOk, If
 ghost use Rattle.std.specs.Option.{option_map};
 ghost use Rattle.svr_typed.specs.StmtTerm.{design_term};
 ghost use Rattle.svr_effect.specs.Inherited.{AreClasses};
-ghost use Rattle.svr_script.specs.Run.{begin, statements};
+ghost use Rattle.svr_script.specs.Run.{statements};
 ghost use Rattle.svr_run.specs.CanRun.{AreAllowed, CanRun};
 ghost use Rattle.svr_run.specs.Ends as spec;
 ghost use Rattle.svr_run.specs.Ends.{Ends, Watches};
 ghost use Rattle.svr_run.specs.Telling.{no_extra, sinks};
 ghost use Rattle.svr_run.specs.Watching.{taken};
-ghost use Rattle.svr_run.specs.Reached.{Stops, no_counts, state_of};
+ghost use Rattle.svr_run.specs.Reached.{Stops};
 
 use crate::extra::Extra;
 use crate::progress::{Counts, Progress};
@@ -26,7 +26,7 @@ use svr_typed::Design;
 use svr_world::Watch;
 
 /// How a run ends: it came to its end, with so many answers; its last call met a limit; or it stopped before.
-#[derive(Clone, Copy, PartialEq, Eq)]
+#[derive(Clone, Copy)]
 pub enum End {
     Ended(Counts),
     Limit,
@@ -42,32 +42,6 @@ fn end_of(progress: &Progress) -> End
     } else {
         End::Ended(progress.counts)
     }
-}
-
-/// The run of a script from its beginning.
-fn walk_through<K: Sink, J: Sink, W: Watch>(
-    alloc: Global,
-    script: &Script<'_>,
-    run: &mut Watched<W>,
-    out: &mut K,
-    journal: &mut J,
-) -> Result<End, Stop>
-    requires classes { AreClasses (design_term script.now.design.now) script.now.classes.now }
-    requires allowed { AreAllowed script.now.opts }
-    requires can_run { CanRun (design_term script.now.design.now) script.now.opts }
-    requires state { state_of run.old.progress ≡ begin (design_term script.now.design.now) }
-    requires counts { run.old.progress.counts ≡ no_counts }
-    requires room { length (statements (design_term script.now.design.now)) ≤ W.left run.old.watch }
-    ensures ends { IfOk result (λ end. Watches (taken W.step) (W.content run.old.watch) (Some (W.content run.new.watch)) (design_term script.now.design.now) script.now.opts script.now.extra end
-        (sinks (K.written out.old) (K.faults out.old) (J.written journal.old) (J.faults journal.old))
-        (sinks (K.written out.new) (K.faults out.new) (J.written journal.new) (J.faults journal.new))) }
-    ensures stops { IfErr result (λ why. Stops (design_term script.now.design.now) script.now.opts script.now.extra
-        (sinks (K.written out.old) (K.faults out.old) (J.written journal.old) (J.faults journal.old)) why
-        (sinks (K.written out.new) (K.faults out.new) (J.written journal.new) (J.faults journal.new))) }
-{
-    let stmts = script.design.stmts.as_slice();
-    walk_all(alloc, script, run, stmts, out, journal)?;
-    Ok(end_of(&run.progress))
 }
 
 /// The run of a script whose classes are made. The watch is handed back.
@@ -91,7 +65,9 @@ fn run_with<K: Sink, J: Sink, W: Watch + Drop>(
 {
     let progress = Progress::begin(alloc, script.design)?;
     let mut run = Watched { progress, watch };
-    let end = walk_through(alloc, script, &mut run, out, journal)?;
+    let stmts = script.design.stmts.as_slice();
+    walk_all(alloc, script, &mut run, stmts, out, journal)?;
+    let end = end_of(&run.progress);
     Ok((end, run.watch))
 }
 

@@ -1,7 +1,7 @@
 // Why a run stops before its end.
 
 /// Why a run stops before its end: an allocation was refused, or a sink failed.
-#[derive(Clone, Copy, PartialEq, Eq)]
+#[derive(Clone, Copy)]
 pub enum Stop {
     NoMemory,
     WriteFault,

@@ -6,7 +6,6 @@ ghost use Rattle.svr_edge.specs.Causes.{HasCause};
 ghost use Rattle.svr_edge.specs.Known.{AppendsFront};
 ghost use Rattle.svr_frame.specs.Frame.{frame_term};
 ghost use Rattle.svr_stream.specs.Puts.{Puts, place};
-ghost use Rattle.svr_script.specs.Printed as line;
 ghost use Rattle.svr_script.specs.ProofText as proof;
 ghost use Rattle.svr_script.specs.Derived.{derivations_of};
 ghost use Rattle.svr_script.specs.Run as spec;
@@ -102,22 +101,6 @@ fn put_proofs<K: Sink>(
     }
 }
 
-/// Puts the line of a call.
-fn put_line_of<K: Sink>(text: &mut Pending, out: &mut K, told: &Told<'_>)
-    ensures { (class : ℕ) → Puts (place (K.written out.old) (K.faults out.old) text.old) (place (K.written out.new) (K.faults out.new) text.new)
-        (line.line_of (event_of class told.now)) }
-{
-    put_line(
-        text,
-        out,
-        told.number,
-        told.object,
-        told.frame,
-        told.outcome,
-        told.after,
-    );
-}
-
 /// Puts the items that contradict each other, where they were asked for.
 fn put_contradiction<K: Sink>(text: &mut Pending, out: &mut K, opts: Options, told: &Told<'_>)
     ensures { Puts (place (K.written out.old) (K.faults out.old) text.old) (place (K.written out.new) (K.faults out.new) text.new)
@@ -151,7 +134,15 @@ fn put_event<K: Sink>(
     ensures front { OnErr result ((class : ℕ) → PutsFront (place (K.written out.old) (K.faults out.old) text.old) (place (K.written out.new) (K.faults out.new) text.new)
         (spec.event_text (printing_of opts extra) (event_of class told.now))) }
 {
-    put_line_of(text, out, told);
+    put_line(
+        text,
+        out,
+        told.number,
+        told.object,
+        told.frame,
+        told.outcome,
+        told.after,
+    );
     put_proofs(alloc, text, out, opts, extra, told)?;
     put_contradiction(text, out, opts, told);
     Ok(())
@@ -190,23 +181,15 @@ fn put_contradiction_log<J: Sink>(text: &mut Pending, journal: &mut J, told: &To
     }
 }
 
-/// Puts the logs of what was given up: of a question of the call, and of that for items that contradict each other.
-fn put_notes<J: Sink>(text: &mut Pending, journal: &mut J, told: &Told<'_>)
-    ensures { (class : ℕ) → Puts (place (J.written journal.old) (J.faults journal.old) text.old) (place (J.written journal.new) (J.faults journal.new) text.new)
-        (spec.event_log (event_of class told.now)) }
-{
-    put_logs(text, journal, told.frame, told.outcome);
-    put_contradiction_log(text, journal, told);
-}
-
-/// Writes the logs of what was given up, or a front of them where the journal fails.
+/// Writes the logs of what was given up, of a question of the call and of that for items that contradict each other, or a front of them where the journal fails.
 fn note<J: Sink>(told: &Told<'_>, journal: &mut J) -> Result<(), Failed>
     ensures whole { (class : ℕ) → OnOk result (Appends (J.written journal.old) (J.written journal.new) (spec.event_log (event_of class told.now))) }
     ensures front { (class : ℕ) → OnErr result (AppendsFront (J.written journal.old) (J.written journal.new) (spec.event_log (event_of class told.now))) }
     ensures cause { HasCause (J.faults journal.old) (J.faults journal.new) result }
 {
     let mut text = Pending::new();
-    put_notes(&mut text, journal, told);
+    put_logs(&mut text, journal, told.frame, told.outcome);
+    put_contradiction_log(&mut text, journal, told);
     text.finish(journal)
 }
 

@@ -1,6 +1,6 @@
-// A call that is repeated (IEEE 1800-2017, 12.7.3 and 18.6). Its frame is made once: between two turns nothing of it changes but the state.
+// A call, and one that is repeated (IEEE 1800-2017, 12.7.3 and 18.6). Its frame is made once: between two turns nothing of it changes but the state.
 
-ghost use Rattle.std.specs.Prelude.{◌≡◌, ◌<◌, ◌∷◌, [], false, OnOk, IfErr, IfSome};
+ghost use Rattle.std.specs.Prelude.{◌≡◌, ◌∷◌, [], false, OnOk, IfErr, IfSome};
 ghost use Rattle.svr_typed.specs.StmtTerm as term;
 ghost use Rattle.svr_typed.specs.StmtTerm.{call_term, design_term, stmt_term};
 ghost use Rattle.svr_effect.specs.Inherited.{AreClasses};
@@ -23,19 +23,12 @@ use svr_frame_of::{make_frame, renew};
 use svr_typed::{CallStmt, TStmt};
 use svr_world::Watch;
 
-/// A call, and how often it is made.
-#[derive(Clone, Copy)]
-pub(crate) struct Repeated<'a> {
-    pub(crate) count: u32,
-    pub(crate) call: &'a CallStmt,
-}
-
-/// A body so many times, if it is one call.
-fn repeated_body(count: u32, body: &TStmt) -> Option<Repeated<'_>>
-    ensures { IfSome result (λ x. term.repeat count (stmt_term body.now) ≡ term.repeat x.count (term.call (call_term x.call.now))) }
+/// The call that a statement is, if it is one.
+pub(crate) fn called(stmt: &TStmt) -> Option<&CallStmt>
+    ensures { IfSome result (λ call. stmt_term stmt.now ≡ term.call (call_term call.now)) }
 {
-    match body {
-        TStmt::Call(call) => Some(Repeated { count, call }),
+    match stmt {
+        TStmt::Call(call) => Some(call),
         TStmt::Make(_)
         | TStmt::SetVar(_, _)
         | TStmt::SetProp { .. }
@@ -48,53 +41,7 @@ fn repeated_body(count: u32, body: &TStmt) -> Option<Repeated<'_>>
     }
 }
 
-/// The call that a statement repeats, if it is a `repeat` whose body is one call.
-pub(crate) fn repeated_call(stmt: &TStmt) -> Option<Repeated<'_>>
-    ensures { IfSome result (λ x. stmt_term stmt.now ≡ term.repeat x.count (term.call (call_term x.call.now))) }
-{
-    match stmt {
-        TStmt::Repeat(count, body) => repeated_body(*count, body.get()),
-        TStmt::Make(_)
-        | TStmt::SetVar(_, _)
-        | TStmt::SetProp { .. }
-        | TStmt::Resize { .. }
-        | TStmt::Pattern { .. }
-        | TStmt::RandMode { .. }
-        | TStmt::ConstraintMode { .. }
-        | TStmt::Call(_)
-        | TStmt::List(_) => None,
-    }
-}
-
-/// A call is made again, in a frame that it had before.
-fn answer_again<K: Sink, J: Sink, W: Watch>(
-    alloc: Global,
-    script: &Script<'_>,
-    run: &mut Watched<W>,
-    call: &CallStmt,
-    frame: &mut Frame,
-    out: &mut K,
-    journal: &mut J,
-) -> Result<(), Stop>
-    requires allowed { AreAllowed script.now.opts }
-    requires can_run { CanRun (design_term script.now.design.now) script.now.opts }
-    requires going { run.old.progress.limited ≡ false }
-    requires framed { IsFrameOf (design_term script.now.design.now) run.old.progress.world (call_term call.now) (frame_term frame.old) }
-    requires before { IsBefore (watcher W.content W.step W.left) (design_term script.now.design.now) script.now.opts script.now.extra (term.call (call_term call.now) ∷ []) run.old
-        (sinks (K.written out.old) (K.faults out.old) (J.written journal.old) (J.faults journal.old)) }
-    ensures framed { OnOk result (IsFrameOf (design_term script.now.design.now) run.new.progress.world (call_term call.now) (frame_term frame.new)) }
-    ensures goes { OnOk result (Goes (watcher W.content W.step W.left) (design_term script.now.design.now) script.now.opts script.now.extra (term.call (call_term call.now) ∷ []) run.old
-        (sinks (K.written out.old) (K.faults out.old) (J.written journal.old) (J.faults journal.old)) run.new
-        (sinks (K.written out.new) (K.faults out.new) (J.written journal.new) (J.faults journal.new))) }
-    ensures breaks { IfErr result (λ why. Breaks (watcher W.content W.step W.left) (design_term script.now.design.now) script.now.opts script.now.extra (term.call (call_term call.now) ∷ []) run.old
-        (sinks (K.written out.old) (K.faults out.old) (J.written journal.old) (J.faults journal.old)) why
-        (sinks (K.written out.new) (K.faults out.new) (J.written journal.new) (J.faults journal.new))) }
-{
-    renew(alloc, frame, &run.progress.world, call.object)?;
-    answer(alloc, script, run, call, &*frame, out, journal)
-}
-
-/// One turn, but none behind a limit.
+/// One turn, but none behind a limit: the call is made in a frame that it had before.
 fn one_turn<K: Sink, J: Sink, W: Watch>(
     alloc: Global,
     script: &Script<'_>,
@@ -120,7 +67,8 @@ fn one_turn<K: Sink, J: Sink, W: Watch>(
     if run.progress.limited {
         return Ok(());
     }
-    answer_again(alloc, script, run, call, frame, out, journal)
+    renew(alloc, frame, &run.progress.world, call.object)?;
+    answer(alloc, script, run, call, &*frame, out, journal)
 }
 
 /// So many turns.
@@ -152,36 +100,7 @@ fn take_turns<K: Sink, J: Sink, W: Watch>(
     Ok(())
 }
 
-/// Makes the frame of a call, and then the call so many times.
-fn begin_turns<K: Sink, J: Sink, W: Watch>(
-    alloc: Global,
-    script: &Script<'_>,
-    run: &mut Watched<W>,
-    count: u32,
-    call: &CallStmt,
-    out: &mut K,
-    journal: &mut J,
-) -> Result<(), Stop>
-    requires classes { AreClasses (design_term script.now.design.now) script.now.classes.now }
-    requires allowed { AreAllowed script.now.opts }
-    requires can_run { CanRun (design_term script.now.design.now) script.now.opts }
-    requires going { run.old.progress.limited ≡ false }
-    requires some { 0 < count }
-    requires before { IsBefore (watcher W.content W.step W.left) (design_term script.now.design.now) script.now.opts script.now.extra (times count (term.call (call_term call.now) ∷ [])) run.old
-        (sinks (K.written out.old) (K.faults out.old) (J.written journal.old) (J.faults journal.old)) }
-    ensures goes { OnOk result (Goes (watcher W.content W.step W.left) (design_term script.now.design.now) script.now.opts script.now.extra (times count (term.call (call_term call.now) ∷ [])) run.old
-        (sinks (K.written out.old) (K.faults out.old) (J.written journal.old) (J.faults journal.old)) run.new
-        (sinks (K.written out.new) (K.faults out.new) (J.written journal.new) (J.faults journal.new))) }
-    ensures breaks { IfErr result (λ why. Breaks (watcher W.content W.step W.left) (design_term script.now.design.now) script.now.opts script.now.extra (times count (term.call (call_term call.now) ∷ [])) run.old
-        (sinks (K.written out.old) (K.faults out.old) (J.written journal.old) (J.faults journal.old)) why
-        (sinks (K.written out.new) (K.faults out.new) (J.written journal.new) (J.faults journal.new))) }
-{
-    let flat = script.classes.of_var(script.design, call.object);
-    let mut frame = make_frame(alloc, script.design, flat, &run.progress.world, call)?;
-    take_turns(alloc, script, run, count, call, &mut frame, out, journal)
-}
-
-/// Executes a call so many times, but none behind a limit.
+/// Executes a call so many times, but none behind a limit: makes its frame, and then the call.
 pub(crate) fn repeat_call<K: Sink, J: Sink, W: Watch>(
     alloc: Global,
     script: &Script<'_>,
@@ -194,6 +113,7 @@ pub(crate) fn repeat_call<K: Sink, J: Sink, W: Watch>(
     requires classes { AreClasses (design_term script.now.design.now) script.now.classes.now }
     requires allowed { AreAllowed script.now.opts }
     requires can_run { CanRun (design_term script.now.design.now) script.now.opts }
+    requires going { run.old.progress.limited ≡ false }
     requires before { IsBefore (watcher W.content W.step W.left) (design_term script.now.design.now) script.now.opts script.now.extra (times count (term.call (call_term call.now) ∷ [])) run.old
         (sinks (K.written out.old) (K.faults out.old) (J.written journal.old) (J.faults journal.old)) }
     ensures goes { OnOk result (Goes (watcher W.content W.step W.left) (design_term script.now.design.now) script.now.opts script.now.extra (times count (term.call (call_term call.now) ∷ [])) run.old
@@ -206,8 +126,9 @@ pub(crate) fn repeat_call<K: Sink, J: Sink, W: Watch>(
     if count == 0 {
         return Ok(());
     }
-    if run.progress.limited {
-        return Ok(());
-    }
-    begin_turns(alloc, script, run, count, call, out, journal)
+    let flat = script.classes.of_var(script.design, call.object);
+    let mut frame = make_frame(alloc, script.design, flat, &run.progress.world, call)?;
+    let told = take_turns(alloc, script, run, count, call, &mut frame, out, journal);
+    drop(frame);
+    told
 }

@@ -9,11 +9,10 @@ ghost use Rattle.svr_run.specs.Telling.{sinks};
 ghost use Rattle.svr_run.specs.Watching.{watcher};
 ghost use Rattle.svr_run.specs.Reached.{Breaks, Goes, IsBefore};
 
-use crate::call::execute_call;
 use crate::plain::execute_plain;
 use crate::script::Script;
 use crate::stop::Stop;
-use crate::turns::{repeat_call, repeated_call};
+use crate::turns::{called, repeat_call};
 use crate::watched::Watched;
 use std::alloc::Global;
 use svr_edge::Sink;
@@ -45,14 +44,15 @@ fn walk_one<K: Sink, J: Sink, W: Watch>(
     if run.progress.limited {
         return Ok(());
     }
-    if let Some(turns) = repeated_call(stmt) {
-        return repeat_call(alloc, script, run, turns.count, turns.call, out, journal);
-    }
     match stmt {
-        TStmt::Call(call) => execute_call(alloc, script, run, call, out, journal),
+        TStmt::Call(call) => repeat_call(alloc, script, run, 1, call, out, journal),
         TStmt::Repeat(count, body) => {
+            let inside = body.get();
+            if let Some(call) = called(inside) {
+                return repeat_call(alloc, script, run, *count, call, out, journal);
+            }
             for _turn in 0..*count {
-                walk_one(alloc, script, run, body.get(), out, journal)?;
+                walk_one(alloc, script, run, inside, out, journal)?;
             }
             Ok(())
         }

@@ -2,56 +2,17 @@ use Rattle.std.proofs.Common.{◌≡◌, ◌+◌, ◌-◌, ◌<◌, ◌++◌, []
 use Rattle.std.proofs.lemmas.List.{at_drop_all}
 use Rattle.std.proofs.lemmas.Result.{on_ok_weaker, IfErr-weaker}
 use Rattle.svr_typed.specs.declared.stmt.TStmt.{TStmt, the_lemmas}
-use Rattle.svr_typed.specs.StmtTerm.{call, call_term, design_term, stmt_term, stmt_terms}
+use Rattle.svr_typed.specs.StmtTerm.{StmtTerm, call, call_term, design_term, stmt_term, stmt_terms}
 use Rattle.svr_script.specs.Statement.{times, in_order, all_in_order}
 use Rattle.svr_run.specs.Telling.{sinks}
 use Rattle.svr_run.specs.Watching.{watcher}
 use Rattle.svr_run.specs.Reached.{IsBefore, Goes}
 use Rattle.svr_run.proofs.Written.{failed_as}
-use Rattle.svr_run.proofs.Walking.{before_first, before_next, goes_then, breaks_then, breaks_first, before_row, goes_row, breaks_row, breaks_as, goes_limited, goes_nowhere}
+use Rattle.svr_run.proofs.Walking.{before_first, before_next, goes_then, breaks_then, breaks_first, before_row, goes_row, breaks_row, breaks_as, goes_nowhere}
 use Rattle.svr_run.proofs.Executed.{call_order, list_order, repeat_order, all_turns, next_turn, no_turn, front_of}
 use Rattle.svr_run.proofs.walk.+walk.Goals as goal
 
--- ---- calls
-
-pub walk_one-execute_call-requires-clause-before : goal.walk_one-execute_call-requires-clause-before
-walk_one-execute_call-requires-clause-before g t c =
-    let wa = watcher g.W.Watch.content g.W.Watch.step g.W.Watch.left in
-    let d = design_term c.args.script.now.design.now in
-    let opts = c.args.script.now.opts in
-    let extra = c.args.script.now.extra in
-    let p = c.args.run.now in
-    let s = sinks (g.K.Sink.written c.args.out.now) (g.K.Sink.faults c.args.out.now) (g.J.Sink.written c.args.journal.now) (g.J.Sink.faults c.args.journal.now) in
-    let x = call (call_term c.in-Call.call) in
-    let xs = in_order (stmt_term c.args.stmt.now) in
-    let same : xs ≡ x ∷ [] = ap (λ (y : TStmt). in_order (stmt_term y)) c.in-Call.is ∙ call_order c.in-Call.call in
-    before_row wa d opts extra xs (x ∷ []) p s same c.requires.before
-
-pub walk_one-returns-in-Call-clause-goes : goal.walk_one-returns-in-Call-clause-goes
-walk_one-returns-in-Call-clause-goes g t c =
-    let wa = watcher g.W.Watch.content g.W.Watch.step g.W.Watch.left in
-    let d = design_term c.args.script.now.design.now in
-    let opts = c.args.script.now.opts in
-    let extra = c.args.script.now.extra in
-    let p = c.args.run.now in
-    let x = call (call_term c.in-Call.call) in
-    let xs = in_order (stmt_term c.args.stmt.now) in
-    let same : xs ≡ x ∷ [] = ap (λ (y : TStmt). in_order (stmt_term y)) c.in-Call.is ∙ call_order c.in-Call.call in
-    on_ok_weaker c.execute_call.result (goes_row wa d opts extra (x ∷ []) xs p c.execute_call.new.run _ _ (sym same)) c.execute_call.ensures.goes
-
-pub walk_one-returns-in-Call-clause-breaks : goal.walk_one-returns-in-Call-clause-breaks
-walk_one-returns-in-Call-clause-breaks g t c =
-    let wa = watcher g.W.Watch.content g.W.Watch.step g.W.Watch.left in
-    let d = design_term c.args.script.now.design.now in
-    let opts = c.args.script.now.opts in
-    let extra = c.args.script.now.extra in
-    let p = c.args.run.now in
-    let x = call (call_term c.in-Call.call) in
-    let xs = in_order (stmt_term c.args.stmt.now) in
-    let same : xs ≡ x ∷ [] = ap (λ (y : TStmt). in_order (stmt_term y)) c.in-Call.is ∙ call_order c.in-Call.call in
-    IfErr-weaker c.execute_call.result _ _ (λ why halt. breaks_row wa d opts extra (x ∷ []) xs p _ _ why (sym same) halt) c.execute_call.ensures.breaks
-
--- ---- a call that is repeated
+-- ---- a call
 
 pub walk_one-repeat_call-requires-clause-before : goal.walk_one-repeat_call-requires-clause-before
 walk_one-repeat_call-requires-clause-before g t c =
@@ -62,8 +23,48 @@ walk_one-repeat_call-requires-clause-before g t c =
     let p = c.args.run.now in
     let s = sinks (g.K.Sink.written c.args.out.now) (g.K.Sink.faults c.args.out.now) (g.J.Sink.written c.args.journal.now) (g.J.Sink.faults c.args.journal.now) in
     let xs = in_order (stmt_term c.args.stmt.now) in
-    let ys = times c.in-Some.turns.count (call (call_term c.in-Some.turns.call.now) ∷ []) in
-    let same : xs ≡ ys = ap in_order c.in-Some.ensures in
+    let ys = times 1 (call (call_term c.in-Call.call) ∷ []) in
+    let same : xs ≡ ys = ap (λ (y : TStmt). in_order (stmt_term y)) c.in-Call.is ∙ call_order c.in-Call.call in
+    before_row wa d opts extra xs ys p s same c.requires.before
+
+pub walk_one-returns-in-Call-clause-goes : goal.walk_one-returns-in-Call-clause-goes
+walk_one-returns-in-Call-clause-goes g t c =
+    let wa = watcher g.W.Watch.content g.W.Watch.step g.W.Watch.left in
+    let d = design_term c.args.script.now.design.now in
+    let opts = c.args.script.now.opts in
+    let extra = c.args.script.now.extra in
+    let p = c.args.run.now in
+    let xs = in_order (stmt_term c.args.stmt.now) in
+    let ys = times 1 (call (call_term c.in-Call.call) ∷ []) in
+    let same : xs ≡ ys = ap (λ (y : TStmt). in_order (stmt_term y)) c.in-Call.is ∙ call_order c.in-Call.call in
+    on_ok_weaker c.repeat_call.result (goes_row wa d opts extra ys xs p c.repeat_call.new.run _ _ (sym same)) c.repeat_call.ensures.goes
+
+pub walk_one-returns-in-Call-clause-breaks : goal.walk_one-returns-in-Call-clause-breaks
+walk_one-returns-in-Call-clause-breaks g t c =
+    let wa = watcher g.W.Watch.content g.W.Watch.step g.W.Watch.left in
+    let d = design_term c.args.script.now.design.now in
+    let opts = c.args.script.now.opts in
+    let extra = c.args.script.now.extra in
+    let p = c.args.run.now in
+    let xs = in_order (stmt_term c.args.stmt.now) in
+    let ys = times 1 (call (call_term c.in-Call.call) ∷ []) in
+    let same : xs ≡ ys = ap (λ (y : TStmt). in_order (stmt_term y)) c.in-Call.is ∙ call_order c.in-Call.call in
+    IfErr-weaker c.repeat_call.result _ _ (λ why halt. breaks_row wa d opts extra ys xs p _ _ why (sym same) halt) c.repeat_call.ensures.breaks
+
+-- ---- a call that is repeated
+
+pub walk_one-repeat_call-requires-in-Some-clause-before : goal.walk_one-repeat_call-requires-in-Some-clause-before
+walk_one-repeat_call-requires-in-Some-clause-before g t c =
+    let wa = watcher g.W.Watch.content g.W.Watch.step g.W.Watch.left in
+    let d = design_term c.args.script.now.design.now in
+    let opts = c.args.script.now.opts in
+    let extra = c.args.script.now.extra in
+    let p = c.args.run.now in
+    let s = sinks (g.K.Sink.written c.args.out.now) (g.K.Sink.faults c.args.out.now) (g.J.Sink.written c.args.journal.now) (g.J.Sink.faults c.args.journal.now) in
+    let n = c.in-Repeat.count in
+    let xs = in_order (stmt_term c.args.stmt.now) in
+    let ys = times n (call (call_term c.in-Some.call.now) ∷ []) in
+    let same : xs ≡ ys = ap (λ (x : TStmt). in_order (stmt_term x)) c.in-Repeat.is ∙ repeat_order n c.in-Repeat.body ∙ ap (λ (x : TStmt). times n (in_order (stmt_term x))) (sym c.get-inside.ensures) ∙ ap (λ (x : StmtTerm). times n (in_order x)) c.in-Some.ensures in
     before_row wa d opts extra xs ys p s same c.requires.before
 
 pub walk_one-returns-in-Some-clause-goes : goal.walk_one-returns-in-Some-clause-goes
@@ -73,10 +74,11 @@ walk_one-returns-in-Some-clause-goes g t c =
     let opts = c.args.script.now.opts in
     let extra = c.args.script.now.extra in
     let p = c.args.run.now in
+    let n = c.in-Repeat.count in
     let xs = in_order (stmt_term c.args.stmt.now) in
-    let ys = times c.in-Some.turns.count (call (call_term c.in-Some.turns.call.now) ∷ []) in
-    let same : xs ≡ ys = ap in_order c.in-Some.ensures in
-    on_ok_weaker c.repeat_call.result (goes_row wa d opts extra ys xs p c.repeat_call.new.run _ _ (sym same)) c.repeat_call.ensures.goes
+    let ys = times n (call (call_term c.in-Some.call.now) ∷ []) in
+    let same : xs ≡ ys = ap (λ (x : TStmt). in_order (stmt_term x)) c.in-Repeat.is ∙ repeat_order n c.in-Repeat.body ∙ ap (λ (x : TStmt). times n (in_order (stmt_term x))) (sym c.get-inside.ensures) ∙ ap (λ (x : StmtTerm). times n (in_order x)) c.in-Some.ensures in
+    on_ok_weaker c.repeat_call-in-Some.result (goes_row wa d opts extra ys xs p c.repeat_call-in-Some.new.run _ _ (sym same)) c.repeat_call-in-Some.ensures.goes
 
 pub walk_one-returns-in-Some-clause-breaks : goal.walk_one-returns-in-Some-clause-breaks
 walk_one-returns-in-Some-clause-breaks g t c =
@@ -85,10 +87,11 @@ walk_one-returns-in-Some-clause-breaks g t c =
     let opts = c.args.script.now.opts in
     let extra = c.args.script.now.extra in
     let p = c.args.run.now in
+    let n = c.in-Repeat.count in
     let xs = in_order (stmt_term c.args.stmt.now) in
-    let ys = times c.in-Some.turns.count (call (call_term c.in-Some.turns.call.now) ∷ []) in
-    let same : xs ≡ ys = ap in_order c.in-Some.ensures in
-    IfErr-weaker c.repeat_call.result _ _ (λ why halt. breaks_row wa d opts extra ys xs p _ _ why (sym same) halt) c.repeat_call.ensures.breaks
+    let ys = times n (call (call_term c.in-Some.call.now) ∷ []) in
+    let same : xs ≡ ys = ap (λ (x : TStmt). in_order (stmt_term x)) c.in-Repeat.is ∙ repeat_order n c.in-Repeat.body ∙ ap (λ (x : TStmt). times n (in_order (stmt_term x))) (sym c.get-inside.ensures) ∙ ap (λ (x : StmtTerm). times n (in_order x)) c.in-Some.ensures in
+    IfErr-weaker c.repeat_call-in-Some.result _ _ (λ why halt. breaks_row wa d opts extra ys xs p _ _ why (sym same) halt) c.repeat_call-in-Some.ensures.breaks
 
 -- ---- `repeat`
 
@@ -98,11 +101,11 @@ walk_one-loop-turn-init g t c =
     let d = design_term c.args.script.now.design.now in
     let opts = c.args.script.now.opts in
     let extra = c.args.script.now.extra in
-    let xs = in_order (stmt_term c.in-Repeat.body) in
+    let xs = in_order (stmt_term c.get-inside.result.now) in
     let n = c.in-Repeat.count in
     let p = c.args.run.now in
     let s = sinks (g.K.Sink.written c.args.out.now) (g.K.Sink.faults c.args.out.now) (g.J.Sink.written c.args.journal.now) (g.J.Sink.faults c.args.journal.now) in
-    let here : in_order (stmt_term c.args.stmt.now) ≡ times n xs = ap (λ (x : TStmt). in_order (stmt_term x)) c.in-Repeat.is ∙ repeat_order n c.in-Repeat.body in
+    let here : in_order (stmt_term c.args.stmt.now) ≡ times n xs = ap (λ (x : TStmt). in_order (stmt_term x)) c.in-Repeat.is ∙ repeat_order n c.in-Repeat.body ∙ ap (λ (x : TStmt). times n (in_order (stmt_term x))) (sym c.get-inside.ensures) in
     let turns : times n xs ≡ times (n - 0) xs = all_turns n xs in
     record {
       before = before_row wa d opts extra (in_order (stmt_term c.args.stmt.now)) (times (n - 0) xs) p s (here ∙ turns) c.requires.before;
@@ -116,17 +119,14 @@ walk_one-walk_one-requires g t c =
     let d = design_term c.args.script.now.design.now in
     let opts = c.args.script.now.opts in
     let extra = c.args.script.now.extra in
-    let xs = in_order (stmt_term c.in-Repeat.body) in
+    let xs = in_order (stmt_term c.get-inside.result.now) in
     let n = c.in-Repeat.count in
     let i = c.loop-turn._turn in
     let p = c.loop-turn.run in
     let s = sinks (g.K.Sink.written c.loop-turn.out) (g.K.Sink.faults c.loop-turn.out) (g.J.Sink.written c.loop-turn.journal) (g.J.Sink.faults c.loop-turn.journal) in
     let ys = times (n - (i + 1)) xs in
     let split : times (n - i) xs ≡ xs ++ ys = next_turn n i xs c.loop-turn-test.true in
-    let body : in_order (stmt_term c.get.result.now) ≡ xs = ap (λ (x : TStmt). in_order (stmt_term x)) c.get.ensures in
-    let first : IsBefore wa d opts extra (in_order (stmt_term c.get.result.now)) p s =
-    before_row wa d opts extra xs (in_order (stmt_term c.get.result.now)) p s (sym body)
-    (before_first wa d opts extra xs ys p p s s (before_row wa d opts extra (times (n - i) xs) (xs ++ ys) p s split c.loop-turn.invariant.before)) in
+    let first : IsBefore wa d opts extra xs p s = before_first wa d opts extra xs ys p p s s (before_row wa d opts extra (times (n - i) xs) (xs ++ ys) p s split c.loop-turn.invariant.before) in
     λ κs lives. (search (rules, the_lemmas), (lives.0, (lives.1.0, (lives.1.1, (c.requires.classes, (c.requires.allowed, (c.requires.can_run, first)))))))
 
 pub walk_one-loop-turn-preserved : goal.walk_one-loop-turn-preserved
@@ -135,7 +135,7 @@ walk_one-loop-turn-preserved g t c =
     let d = design_term c.args.script.now.design.now in
     let opts = c.args.script.now.opts in
     let extra = c.args.script.now.extra in
-    let xs = in_order (stmt_term c.in-Repeat.body) in
+    let xs = in_order (stmt_term c.get-inside.result.now) in
     let n = c.in-Repeat.count in
     let i = c.loop-turn._turn in
     let p = c.loop-turn.run in
@@ -144,8 +144,7 @@ walk_one-loop-turn-preserved g t c =
     let u = sinks (g.K.Sink.written c.walk_one.new.out) (g.K.Sink.faults c.walk_one.new.out) (g.J.Sink.written c.walk_one.new.journal) (g.J.Sink.faults c.walk_one.new.journal) in
     let ys = times (n - (i + 1)) xs in
     let split : times (n - i) xs ≡ xs ++ ys = next_turn n i xs c.loop-turn-test.true in
-    let body : in_order (stmt_term c.get.result.now) ≡ xs = ap (λ (x : TStmt). in_order (stmt_term x)) c.get.ensures in
-    let turn : Goes wa d opts extra xs p s q u = goes_row wa d opts extra (in_order (stmt_term c.get.result.now)) xs p q s u body c.in_ok-walk_one-in-Repeat.ensures.goes in
+    let turn : Goes wa d opts extra xs p s q u = c.in_ok-walk_one-in-Repeat.ensures.goes in
     record {
       before = before_next wa d opts extra xs ys p q s u (before_row wa d opts extra (times (n - i) xs) (xs ++ ys) p s split c.loop-turn.invariant.before) turn;
       goes = λ r after way. c.loop-turn.invariant.goes r after (goes_row wa d opts extra (xs ++ ys) (times (n - i) xs) p r s after (sym split) (goes_then wa d opts extra xs ys p q s u r after turn way));
@@ -158,7 +157,7 @@ walk_one-returns-in_err-walk_one-in-Repeat-clause-breaks g t c =
     let d = design_term c.args.script.now.design.now in
     let opts = c.args.script.now.opts in
     let extra = c.args.script.now.extra in
-    let xs = in_order (stmt_term c.in-Repeat.body) in
+    let xs = in_order (stmt_term c.get-inside.result.now) in
     let n = c.in-Repeat.count in
     let i = c.loop-turn._turn in
     let p = c.loop-turn.run in
@@ -167,15 +166,13 @@ walk_one-returns-in_err-walk_one-in-Repeat-clause-breaks g t c =
     let a = sinks (g.K.Sink.written c.args.out.now) (g.K.Sink.faults c.args.out.now) (g.J.Sink.written c.args.journal.now) (g.J.Sink.faults c.args.journal.now) in
     let ys = times (n - (i + 1)) xs in
     let split : times (n - i) xs ≡ xs ++ ys = next_turn n i xs c.loop-turn-test.true in
-    let here : in_order (stmt_term c.args.stmt.now) ≡ times n xs = ap (λ (x : TStmt). in_order (stmt_term x)) c.in-Repeat.is ∙ repeat_order n c.in-Repeat.body in
-    let body : in_order (stmt_term c.get.result.now) ≡ xs = ap (λ (x : TStmt). in_order (stmt_term x)) c.get.ensures in
+    let here : in_order (stmt_term c.args.stmt.now) ≡ times n xs = ap (λ (x : TStmt). in_order (stmt_term x)) c.in-Repeat.is ∙ repeat_order n c.in-Repeat.body ∙ ap (λ (x : TStmt). times n (in_order (stmt_term x))) (sym c.get-inside.ensures) in
     failed_as c.from_residual.result _ _ c.from_residual.ensures.1
     (λ why e. breaks_as wa d opts extra (in_order (stmt_term c.args.stmt.now)) c.args.run.now a u why _ e
     (breaks_row wa d opts extra (times n xs) (in_order (stmt_term c.args.stmt.now)) c.args.run.now a u _ (sym here)
     (c.loop-turn.invariant.breaks _ u
     (breaks_row wa d opts extra (xs ++ ys) (times (n - i) xs) p s u _ (sym split)
-    (breaks_first wa d opts extra xs ys p p s s _ u
-    (breaks_row wa d opts extra (in_order (stmt_term c.get.result.now)) xs p s u _ body c.in_err-walk_one-in-Repeat.ensures.breaks))))))
+    (breaks_first wa d opts extra xs ys p p s s _ u c.in_err-walk_one-in-Repeat.ensures.breaks)))))
 
 pub walk_one-returns-after-loop-turn-clause-goes : goal.walk_one-returns-after-loop-turn-clause-goes
 walk_one-returns-after-loop-turn-clause-goes g t c =
@@ -183,14 +180,14 @@ walk_one-returns-after-loop-turn-clause-goes g t c =
     let d = design_term c.args.script.now.design.now in
     let opts = c.args.script.now.opts in
     let extra = c.args.script.now.extra in
-    let xs = in_order (stmt_term c.in-Repeat.body) in
+    let xs = in_order (stmt_term c.get-inside.result.now) in
     let n = c.in-Repeat.count in
     let i = c.loop-turn._turn in
     let p = c.loop-turn.run in
     let s = sinks (g.K.Sink.written c.loop-turn.out) (g.K.Sink.faults c.loop-turn.out) (g.J.Sink.written c.loop-turn.journal) (g.J.Sink.faults c.loop-turn.journal) in
     let a = sinks (g.K.Sink.written c.args.out.now) (g.K.Sink.faults c.args.out.now) (g.J.Sink.written c.args.journal.now) (g.J.Sink.faults c.args.journal.now) in
     let none : times (n - i) xs ≡ [] = no_turn n i xs (omega arith) in
-    let here : in_order (stmt_term c.args.stmt.now) ≡ times n xs = ap (λ (x : TStmt). in_order (stmt_term x)) c.in-Repeat.is ∙ repeat_order n c.in-Repeat.body in
+    let here : in_order (stmt_term c.args.stmt.now) ≡ times n xs = ap (λ (x : TStmt). in_order (stmt_term x)) c.in-Repeat.is ∙ repeat_order n c.in-Repeat.body ∙ ap (λ (x : TStmt). times n (in_order (stmt_term x))) (sym c.get-inside.ensures) in
     goes_row wa d opts extra (times n xs) (in_order (stmt_term c.args.stmt.now)) c.args.run.now p a s (sym here)
     (c.loop-turn.invariant.goes p s (goes_row wa d opts extra [] (times (n - i) xs) p p s s (sym none) (goes_nowhere wa d opts extra p s)))
 

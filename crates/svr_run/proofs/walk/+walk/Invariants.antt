@@ -10,15 +10,15 @@ use Rattle.svr_run.proofs.walk.+walk.Given as goal
 
 abbrev pub invariant-walk_one-loop-turn : goal.invariant-walk_one-loop-turn
 invariant-walk_one-loop-turn g l = record {
-  before : IsBefore (watcher g.W.Watch.content g.W.Watch.step g.W.Watch.left) (design_term l.script.design.now) l.script.opts l.script.extra (times (l._turn-end - l._turn) (in_order (stmt_term l.body))) l.run
+  before : IsBefore (watcher g.W.Watch.content g.W.Watch.step g.W.Watch.left) (design_term l.script.design.now) l.script.opts l.script.extra (times (l._turn-end - l._turn) (in_order (stmt_term l.inside))) l.run
       (sinks (g.K.Sink.written l.out) (g.K.Sink.faults l.out) (g.J.Sink.written l.journal) (g.J.Sink.faults l.journal));
-  goes : (q : Watched g.row.W.Denot) (after : Sinks) → Goes (watcher g.W.Watch.content g.W.Watch.step g.W.Watch.left) (design_term l.script.design.now) l.script.opts l.script.extra (times (l._turn-end - l._turn) (in_order (stmt_term l.body))) l.run
+  goes : (q : Watched g.row.W.Denot) (after : Sinks) → Goes (watcher g.W.Watch.content g.W.Watch.step g.W.Watch.left) (design_term l.script.design.now) l.script.opts l.script.extra (times (l._turn-end - l._turn) (in_order (stmt_term l.inside))) l.run
       (sinks (g.K.Sink.written l.out) (g.K.Sink.faults l.out) (g.J.Sink.written l.journal) (g.J.Sink.faults l.journal)) q after
-      → Goes (watcher g.W.Watch.content g.W.Watch.step g.W.Watch.left) (design_term l.script.design.now) l.script.opts l.script.extra (times l._turn-end (in_order (stmt_term l.body))) l.fn.run
+      → Goes (watcher g.W.Watch.content g.W.Watch.step g.W.Watch.left) (design_term l.script.design.now) l.script.opts l.script.extra (times l._turn-end (in_order (stmt_term l.inside))) l.fn.run
       (sinks (g.K.Sink.written l.fn.out) (g.K.Sink.faults l.fn.out) (g.J.Sink.written l.fn.journal) (g.J.Sink.faults l.fn.journal)) q after;
-  breaks : (why : Stop) (after : Sinks) → Breaks (watcher g.W.Watch.content g.W.Watch.step g.W.Watch.left) (design_term l.script.design.now) l.script.opts l.script.extra (times (l._turn-end - l._turn) (in_order (stmt_term l.body))) l.run
+  breaks : (why : Stop) (after : Sinks) → Breaks (watcher g.W.Watch.content g.W.Watch.step g.W.Watch.left) (design_term l.script.design.now) l.script.opts l.script.extra (times (l._turn-end - l._turn) (in_order (stmt_term l.inside))) l.run
       (sinks (g.K.Sink.written l.out) (g.K.Sink.faults l.out) (g.J.Sink.written l.journal) (g.J.Sink.faults l.journal)) why after
-      → Breaks (watcher g.W.Watch.content g.W.Watch.step g.W.Watch.left) (design_term l.script.design.now) l.script.opts l.script.extra (times l._turn-end (in_order (stmt_term l.body))) l.fn.run
+      → Breaks (watcher g.W.Watch.content g.W.Watch.step g.W.Watch.left) (design_term l.script.design.now) l.script.opts l.script.extra (times l._turn-end (in_order (stmt_term l.inside))) l.fn.run
       (sinks (g.K.Sink.written l.fn.out) (g.K.Sink.faults l.fn.out) (g.J.Sink.written l.fn.journal) (g.J.Sink.faults l.fn.journal)) why after;
 }
 
