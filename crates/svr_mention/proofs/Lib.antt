@@ -1,2 +1,3 @@
 pub mod Appended
 pub mod Indexes
+pub mod Turns
