@@ -17,20 +17,17 @@ use Rattle.svr_effect.proofs.Gathered.{Gathers, gathers_one, typed_at_places, re
 stored : (t : TExpr) → expr_term t ≡ typed t.width t.signed (node_term t.node)
 stored t = fold_out-TExpr BoundTerm NodeTerm RangeTerm ExprTerm bound_step node_step range_step expr_step t
 
-own_width : (t : TExpr) → IsTyped (expr_term t) → size_of (expr_term t) ≡ t.width
+pub own_width : (t : TExpr) → IsTyped (expr_term t) → size_of (expr_term t) ≡ t.width
 own_width t h = ap size_of (stored t) ∙ (subst IsTyped (stored t) h).2
 
 own_signed : (t : TExpr) → IsTyped (expr_term t) → sign_of (expr_term t) ≡ t.signed
 own_signed t h = ap sign_of (stored t) ∙ (subst IsTyped (stored t) h).3
 
-at_most : (t : TExpr) → IsTyped (expr_term t) → t.width ≤ 64
+pub at_most : (t : TExpr) → IsTyped (expr_term t) → t.width ≤ 64
 at_most t h = (subst IsTyped (stored t) h).1
 
 abbrev width_in : ExprTerm → ℕ
 width_in (typed w s n) = w
-
-abbrev signed_in : ExprTerm → Bool
-signed_in (typed w s n) = s
 
 -- the copy by places `over`, of what is named alone, and the reading that it is computed over
 module _ (w : WorldTerm) (r : Reading) (e over : TExpr) (env : List ℕ) (copied : expr_term over ≡ by_places (mentions nothing (numbered (expr_term e))) (numbered (expr_term e)))
@@ -55,35 +52,13 @@ module _ (w : WorldTerm) (r : Reading) (e over : TExpr) (env : List ℕ) (copied
   same_width : over.width ≡ e.width
   same_width = sym (ap width_in (stored over)) ∙ ap width_in copied ∙ ap (λ (x : ExprTerm). width_in (by_places names (numbered x))) (stored e)
 
-  same_size : size_of (expr_term over) ≡ size_of (expr_term e)
-  same_size = own_width over typed_over ∙ same_width ∙ sym (own_width e h.own)
-
-  same_signed : over.signed ≡ e.signed
-  same_signed = sym (ap signed_in (stored over)) ∙ ap signed_in copied ∙ ap (λ (x : ExprTerm). signed_in (by_places names (numbered x))) (stored e)
-
-  same_sign : sign_of (expr_term over) ≡ sign_of (expr_term e)
-  same_sign = own_signed over typed_over ∙ same_signed ∙ sym (own_signed e h.own)
-
-  -- alone
-  pub size_alone : size_of (expr_term over) ≡ size_of (expr_term e)
-  size_alone = same_size
-
-  pub value_alone : alone r env (expr_term over) ≡ alone_over (reading_of_world w) (expr_term e)
-  value_alone =
-      (λ k. val (read k) (outside k) (copied k) (same_size k) (same_sign k))
-      ∙ value_at_places w names (numbered (expr_term e)) gathered (size_of (expr_term e)) (sign_of (expr_term e))
-
   -- at a width that is no less than its own
-  pub wide_at : (width : ℕ) → over.width ≤ max width e.width
-  wide_at width = omega (arith, same_width)
+  pub wide_at : (width : ℕ) → e.width ≤ width → over.width ≤ width
+  wide_at width le = omega (arith, same_width, le)
 
-  pub high_at : (width : ℕ) → width ≤ 64 → max width e.width ≤ 64
-  high_at width le = omega (arith, le, at_most e h.own)
-
-  pub value_at : (width : ℕ) → val r env (expr_term over) (max width e.width) e.signed ≡ val (reading_of_world w) [] (numbered (expr_term e)) (max width (size_of (expr_term e))) (sign_of (expr_term e))
+  pub value_at : (width : ℕ) → val r env (expr_term over) width e.signed ≡ val (reading_of_world w) [] (numbered (expr_term e)) width (sign_of (expr_term e))
   value_at width =
-      (λ k. val (read k) (outside k) (copied k) (max width (sym (own_width e h.own) k)) (sym (own_signed e h.own) k))
-      ∙ value_at_places w names (numbered (expr_term e)) gathered (max width (size_of (expr_term e))) (sign_of (expr_term e))
+      (λ k. val (read k) (outside k) (copied k) width (sym (own_signed e h.own) k)) ∙ value_at_places w names (numbered (expr_term e)) gathered width (sign_of (expr_term e))
 
 -- a value as a number
 pub place_same : (r : Reading) (e : TExpr) → IsComputable r (expr_term e) → (width value : ℕ) → width ≡ size_of (expr_term e) → value ≡ alone_over r (expr_term e)

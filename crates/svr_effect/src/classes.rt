@@ -11,6 +11,7 @@ ghost use Rattle.svr_script.specs.Statement.{flat_of_var};
 ghost use Rattle.svr_effect.specs.Inherited.{AreClasses, KeepsWanted, wanted_class, wanted_by};
 
 use crate::declared::class_of_var;
+use crate::memory::pushed;
 use sqlite_items::Items;
 use std::alloc::Global;
 use svr_flat::{Known, flatten_over};
@@ -153,8 +154,8 @@ fn flat_classes(
             flats: flats.as_slice(),
             marks: wanted,
         };
-        let flat = flat_class(alloc, design, &known, class)?;
-        flats.push(flat)?;
+        let flat = flat_class(alloc, design, &known, class);
+        flats = pushed(flats, flat)?;
     }
     Ok(flats)
 }

@@ -48,14 +48,6 @@ fn replace(
     Ok(())
 }
 
-/// As many zeros.
-fn zeros(alloc: Global, count: u32) -> Result<Items<u64>, NoMemory>
-    ensures { IfOk result (λ numbers. numbers ≡ replicate count 0) }
-{
-    let numbers = vec![in alloc; 0; count as usize]?;
-    Ok(Items::from_vec(numbers))
-}
-
 /// A number goes to a place of a property; one that the property does not have takes nothing (IEEE 1800-2017, 7.4.5).
 fn write(world: &mut World, object: u32, prop: u32, place: Option<u64>, value: u64)
     requires { IsMade world.old object }
@@ -146,8 +138,8 @@ fn set_zeros(
     ensures effect { OnOk result (world.new ≡ with_numbers world.old object prop (replicate count 0)) }
     ensures failed { OnErr result (world.new ≡ world.old) }
 {
-    let numbers = zeros(alloc, count)?;
-    replace(alloc, world, object, prop, numbers)
+    let numbers = vec![in alloc; 0; count as usize]?;
+    replace(alloc, world, object, prop, Items::from_vec(numbers))
 }
 
 /// A number for a script variable.

@@ -6,7 +6,7 @@ ghost use Rattle.svr_typed.specs.ExprTerm.{expr_term, expr_terms, node_term, ran
 ghost use Rattle.svr_script.specs.Numbered as spec;
 
 use crate::memory::{both, pushed};
-use sqlite_items::Items;
+use sqlite_items::{Boxed, Items};
 use std::alloc::Global;
 use svr_flat::copy_expr;
 use svr_limits::PROPERTY_LIMIT;
@@ -41,12 +41,12 @@ pub(crate) fn numbered(alloc: Global, e: &TExpr) -> Result<TExpr, NoMemory>
         TNode::Loop(depth) => Ok(TNode::loop_index(*depth)),
         TNode::Number { value, every } => Ok(TNode::number(*value, *every)),
         TNode::Prop(prop) => Ok(TNode::prop(*prop)),
-        TNode::Element(prop, index) => numbered_element(alloc, *prop, index.get()),
+        TNode::Element(prop, index) => numbered_element(alloc, *prop, index),
         TNode::Cell(prop, inner, first, second) => {
-            numbered_cell(alloc, *prop, *inner, first.get(), second.get())
+            numbered_cell(alloc, *prop, *inner, first, second)
         }
         TNode::Size(prop, inner) => Ok(TNode::size(*prop, *inner)),
-        TNode::Reduce(prop, op, body) => { numbered_reduction(alloc, *prop, *op, body.get()) }
+        TNode::Reduce(prop, op, body) => { numbered_reduction(alloc, *prop, *op, body) }
         TNode::Script(variable) => Ok(TNode::script(*variable)),
         TNode::Of(object, part) => numbered_part(alloc, *object, part.get()),
         TNode::Select {
@@ -55,29 +55,33 @@ pub(crate) fn numbered(alloc: Global, e: &TExpr) -> Result<TExpr, NoMemory>
             last,
             low,
         } => match last {
-            None => numbered_bit(alloc, base.get(), first.get(), *low),
-            Some(last) => numbered_bits(alloc, base.get(), first.get(), last.get(), *low),
+            None => numbered_bit(alloc, base, first, *low),
+            Some(last) => numbered_bits(alloc, base, first, last, *low),
         },
-        TNode::Unary { op, arg } => numbered_unary(alloc, *op, arg.get()),
-        TNode::Binary { op, left, right } => {
-            numbered_binary(alloc, *op, left.get(), right.get())
-        }
-        TNode::Choice { test, yes, no } => {
-            numbered_choice(alloc, test.get(), yes.get(), no.get())
-        }
-        TNode::Inside { left, set } => numbered_inside(alloc, set.as_slice(), left.get()),
+        TNode::Unary { op, arg } => numbered_unary(alloc, *op, arg),
+        TNode::Binary { op, left, right } => { numbered_binary(alloc, *op, left, right) }
+        TNode::Choice { test, yes, no } => { numbered_choice(alloc, test, yes, no) }
+        TNode::Inside { left, set } => numbered_inside(alloc, set.as_slice(), left),
         TNode::Join { parts } => numbered_join(alloc, parts.as_slice()),
-        TNode::Copies { count, parts } => { numbered_copies(alloc, parts.as_slice(), count.get()) }
-        TNode::Sign { signed, arg } => numbered_sign(alloc, *signed, arg.get()),
+        TNode::Copies { count, parts } => { numbered_copies(alloc, parts.as_slice(), count) }
+        TNode::Sign { signed, arg } => numbered_sign(alloc, *signed, arg),
     };
     Ok(TExpr::new(e.width, e.signed, node?))
 }
 
+/// Such a copy of what is in a box.
 #[cycle(numbered)]
-fn numbered_element(alloc: Global, prop: u32, index: &TExpr) -> Result<TNode, NoMemory>
+fn numbered_child(alloc: Global, child: &Boxed<TExpr>) -> Result<TExpr, NoMemory>
+    ensures { IfOk result (λ r. expr_term r ≡ spec.numbered (expr_term child.now)) }
+{
+    numbered(alloc, child.get())
+}
+
+#[cycle(numbered)]
+fn numbered_element(alloc: Global, prop: u32, index: &Boxed<TExpr>) -> Result<TNode, NoMemory>
     ensures { IfOk result (λ n. node_term n ≡ term.element prop (spec.numbered (expr_term index.now))) }
 {
-    TNode::element(alloc, prop, numbered(alloc, index)?)
+    TNode::element(alloc, prop, numbered_child(alloc, index)?)
 }
 
 #[cycle(numbered)]
@@ -85,20 +89,25 @@ fn numbered_cell(
     alloc: Global,
     prop: u32,
     inner: u32,
-    first: &TExpr,
-    second: &TExpr,
+    first: &Boxed<TExpr>,
+    second: &Boxed<TExpr>,
 ) -> Result<TNode, NoMemory>
     ensures { IfOk result (λ n. node_term n ≡ term.cell prop inner (spec.numbered (expr_term first.now)) (spec.numbered (expr_term second.now))) }
 {
-    let (first, second) = both(numbered(alloc, first), numbered(alloc, second))?;
+    let (first, second) = both(numbered_child(alloc, first), numbered_child(alloc, second))?;
     TNode::cell(alloc, prop, inner, first, second)
 }
 
 #[cycle(numbered)]
-fn numbered_reduction(alloc: Global, prop: u32, op: Fold, body: &TExpr) -> Result<TNode, NoMemory>
+fn numbered_reduction(
+    alloc: Global,
+    prop: u32,
+    op: Fold,
+    body: &Boxed<TExpr>,
+) -> Result<TNode, NoMemory>
     ensures { IfOk result (λ n. node_term n ≡ term.reduce prop op (spec.numbered (expr_term body.now))) }
 {
-    TNode::reduce(alloc, prop, op, numbered(alloc, body)?)
+    TNode::reduce(alloc, prop, op, numbered_child(alloc, body)?)
 }
 
 /// A part of an object as one of all objects together. Parts that are none of an object stay as they are.
@@ -108,87 +117,100 @@ fn numbered_part(alloc: Global, object: u32, part: &TExpr) -> Result<TNode, NoMe
 {
     match &part.node {
         TNode::Prop(prop) => Ok(TNode::prop(place_of(object, *prop)?)),
-        TNode::Element(prop, index) => {
-            numbered_element(alloc, place_of(object, *prop)?, index.get())
-        }
+        TNode::Element(prop, index) => { numbered_element(alloc, place_of(object, *prop)?, index) }
         TNode::Cell(prop, inner, first, second) => numbered_cell(
             alloc,
             place_of(object, *prop)?,
             *inner,
-            first.get(),
-            second.get(),
+            first,
+            second,
         ),
         TNode::Size(prop, inner) => Ok(TNode::size(place_of(object, *prop)?, *inner)),
         TNode::Reduce(prop, op, body) => {
-            numbered_reduction(alloc, place_of(object, *prop)?, *op, body.get())
+            numbered_reduction(alloc, place_of(object, *prop)?, *op, body)
         }
-        TNode::Number { .. } => copied_node(alloc, part),
-        TNode::Script(_) => copied_node(alloc, part),
-        TNode::Loop(_) => copied_node(alloc, part),
-        TNode::Of(_, _) => copied_node(alloc, part),
-        TNode::Select { .. } => copied_node(alloc, part),
-        TNode::Unary { .. } => copied_node(alloc, part),
-        TNode::Binary { .. } => copied_node(alloc, part),
-        TNode::Choice { .. } => copied_node(alloc, part),
-        TNode::Inside { .. } => copied_node(alloc, part),
-        TNode::Join { .. } => copied_node(alloc, part),
-        TNode::Copies { .. } => copied_node(alloc, part),
-        TNode::Sign { .. } => copied_node(alloc, part),
+        TNode::Number { .. }
+        | TNode::Script(_)
+        | TNode::Loop(_)
+        | TNode::Of(_, _)
+        | TNode::Select { .. }
+        | TNode::Unary { .. }
+        | TNode::Binary { .. }
+        | TNode::Choice { .. }
+        | TNode::Inside { .. }
+        | TNode::Join { .. }
+        | TNode::Copies { .. }
+        | TNode::Sign { .. } => copied_node(alloc, part),
     }
 }
 
 #[cycle(numbered)]
-fn numbered_bit(alloc: Global, base: &TExpr, index: &TExpr, low: i64) -> Result<TNode, NoMemory>
+fn numbered_bit(
+    alloc: Global,
+    base: &Boxed<TExpr>,
+    index: &Boxed<TExpr>,
+    low: i64,
+) -> Result<TNode, NoMemory>
     ensures { IfOk result (λ n. node_term n ≡ term.bit_select (spec.numbered (expr_term base.now)) (spec.numbered (expr_term index.now)) low) }
 {
-    let (base, index) = both(numbered(alloc, base), numbered(alloc, index))?;
+    let (base, index) = both(numbered_child(alloc, base), numbered_child(alloc, index))?;
     TNode::bit_select(alloc, base, index, low)
 }
 
 #[cycle(numbered)]
 fn numbered_bits(
     alloc: Global,
-    base: &TExpr,
-    first: &TExpr,
-    last: &TExpr,
+    base: &Boxed<TExpr>,
+    first: &Boxed<TExpr>,
+    last: &Boxed<TExpr>,
     low: i64,
 ) -> Result<TNode, NoMemory>
     ensures { IfOk result (λ n. node_term n ≡ term.part_select (spec.numbered (expr_term base.now)) (spec.numbered (expr_term first.now)) (spec.numbered (expr_term last.now)) low) }
 {
-    let bounds = both(numbered(alloc, first), numbered(alloc, last));
-    let (base, (first, last)) = both(numbered(alloc, base), bounds)?;
+    let bounds = both(numbered_child(alloc, first), numbered_child(alloc, last));
+    let (base, (first, last)) = both(numbered_child(alloc, base), bounds)?;
     TNode::part_select(alloc, base, first, last, low)
 }
 
 #[cycle(numbered)]
-fn numbered_unary(alloc: Global, op: UnOp, arg: &TExpr) -> Result<TNode, NoMemory>
+fn numbered_unary(alloc: Global, op: UnOp, arg: &Boxed<TExpr>) -> Result<TNode, NoMemory>
     ensures { IfOk result (λ n. node_term n ≡ term.unary op (spec.numbered (expr_term arg.now))) }
 {
-    TNode::unary(alloc, op, numbered(alloc, arg)?)
+    TNode::unary(alloc, op, numbered_child(alloc, arg)?)
 }
 
 #[cycle(numbered)]
-fn numbered_binary(alloc: Global, op: BinOp, left: &TExpr, right: &TExpr) -> Result<TNode, NoMemory>
+fn numbered_binary(
+    alloc: Global,
+    op: BinOp,
+    left: &Boxed<TExpr>,
+    right: &Boxed<TExpr>,
+) -> Result<TNode, NoMemory>
     ensures { IfOk result (λ n. node_term n ≡ term.binary op (spec.numbered (expr_term left.now)) (spec.numbered (expr_term right.now))) }
 {
-    let (left, right) = both(numbered(alloc, left), numbered(alloc, right))?;
+    let (left, right) = both(numbered_child(alloc, left), numbered_child(alloc, right))?;
     TNode::binary(alloc, op, left, right)
 }
 
 #[cycle(numbered)]
-fn numbered_choice(alloc: Global, test: &TExpr, yes: &TExpr, no: &TExpr) -> Result<TNode, NoMemory>
+fn numbered_choice(
+    alloc: Global,
+    test: &Boxed<TExpr>,
+    yes: &Boxed<TExpr>,
+    no: &Boxed<TExpr>,
+) -> Result<TNode, NoMemory>
     ensures { IfOk result (λ n. node_term n ≡ term.choice (spec.numbered (expr_term test.now)) (spec.numbered (expr_term yes.now)) (spec.numbered (expr_term no.now))) }
 {
-    let values = both(numbered(alloc, yes), numbered(alloc, no));
-    let (test, (yes, no)) = both(numbered(alloc, test), values)?;
+    let values = both(numbered_child(alloc, yes), numbered_child(alloc, no));
+    let (test, (yes, no)) = both(numbered_child(alloc, test), values)?;
     TNode::choice(alloc, test, yes, no)
 }
 
 #[cycle(numbered)]
-fn numbered_inside(alloc: Global, set: &[TRange], left: &TExpr) -> Result<TNode, NoMemory>
+fn numbered_inside(alloc: Global, set: &[TRange], left: &Boxed<TExpr>) -> Result<TNode, NoMemory>
     ensures { IfOk result (λ n. node_term n ≡ term.inside (spec.numbered (expr_term left.now)) (spec.numbered_ranges (range_terms set.now))) }
 {
-    let (left, set) = both(numbered(alloc, left), numbered_ranges(alloc, set))?;
+    let (left, set) = both(numbered_child(alloc, left), numbered_ranges(alloc, set))?;
     TNode::inside(alloc, left, set)
 }
 
@@ -200,18 +222,18 @@ fn numbered_join(alloc: Global, parts: &[TExpr]) -> Result<TNode, NoMemory>
 }
 
 #[cycle(numbered)]
-fn numbered_copies(alloc: Global, parts: &[TExpr], count: &TExpr) -> Result<TNode, NoMemory>
+fn numbered_copies(alloc: Global, parts: &[TExpr], count: &Boxed<TExpr>) -> Result<TNode, NoMemory>
     ensures { IfOk result (λ n. node_term n ≡ term.copies (spec.numbered (expr_term count.now)) (spec.numbered_all (expr_terms parts.now))) }
 {
-    let (count, parts) = both(numbered(alloc, count), numbered_all(alloc, parts))?;
+    let (count, parts) = both(numbered_child(alloc, count), numbered_all(alloc, parts))?;
     TNode::copies(alloc, count, parts)
 }
 
 #[cycle(numbered)]
-fn numbered_sign(alloc: Global, signed: bool, arg: &TExpr) -> Result<TNode, NoMemory>
+fn numbered_sign(alloc: Global, signed: bool, arg: &Boxed<TExpr>) -> Result<TNode, NoMemory>
     ensures { IfOk result (λ n. node_term n ≡ term.sign signed (spec.numbered (expr_term arg.now))) }
 {
-    TNode::sign(alloc, signed, numbered(alloc, arg)?)
+    TNode::sign(alloc, signed, numbered_child(alloc, arg)?)
 }
 
 /// A copy of a list of expressions in which properties are numbered among those of all objects.

@@ -6,6 +6,7 @@ ghost use Rattle.svr_effect.specs.Mentions.{reading_at};
 ghost use Rattle.svr_effect.specs.Named.{mentioned};
 ghost use Rattle.svr_effect.specs.Objects.{numbers_in, size_in};
 
+use crate::memory::{both, pushed};
 use crate::mention::Names;
 use sqlite_items::Items;
 use std::alloc::Global;
@@ -32,7 +33,7 @@ fn numbers_at(alloc: Global, world: &World, places: &[u32]) -> Result<Items<Item
     let mut rows = Items::new(alloc);
     let mut left = places;
     'places: while let Some((place, others)) = left.split_first() {
-        rows.push(numbers_in(alloc, world, *place)?)?;
+        rows = pushed(rows, numbers_in(alloc, world, *place))?;
         left = others;
     }
     Ok(rows)
@@ -78,9 +79,10 @@ fn variables_at(alloc: Global, script: &[u64], variables: &[u32]) -> Result<Item
 pub(crate) fn seen(alloc: Global, world: &World, names: &Names) -> Result<Assign, NoMemory>
     ensures { IfOk result (λ a. reading_of a ≡ reading_at world.now (mentioned names.now)) }
 {
-    let values = numbers_at(alloc, world, names.props.as_slice())?;
-    let sizes = sizes_at(alloc, world, names.props.as_slice())?;
-    let script = variables_at(alloc, world.script(), names.vars.as_slice())?;
+    let values = numbers_at(alloc, world, names.props.as_slice());
+    let sizes = sizes_at(alloc, world, names.props.as_slice());
+    let script = variables_at(alloc, world.script(), names.vars.as_slice());
+    let (values, (sizes, script)) = both(values, both(sizes, script))?;
     Ok(Assign {
         values,
         sizes,

@@ -9,7 +9,7 @@ ghost use Rattle.svr_effect.specs.Named.{mentioned};
 use crate::memory::{both, pushed};
 use crate::mention::Names;
 use indexmap::IndexSet;
-use sqlite_items::Items;
+use sqlite_items::{Boxed, Items};
 use std::alloc::Global;
 use svr_operator::{BinOp, Fold, UnOp};
 use svr_typed::{NoMemory, TBound, TExpr, TNode, TRange};
@@ -62,46 +62,53 @@ pub(crate) fn by_places(alloc: Global, names: &Names, e: &TExpr) -> Result<TExpr
         TNode::Loop(depth) => Ok(TNode::loop_index(*depth)),
         TNode::Number { value, every } => Ok(TNode::number(*value, *every)),
         TNode::Prop(prop) => placed_prop(names, *prop),
-        TNode::Element(prop, index) => placed_element(alloc, names, *prop, index.get()),
+        TNode::Element(prop, index) => placed_element(alloc, names, *prop, index),
         TNode::Cell(prop, inner, first, second) => {
-            placed_cell(alloc, names, *prop, *inner, first.get(), second.get())
+            placed_cell(alloc, names, *prop, *inner, first, second)
         }
         TNode::Size(prop, inner) => placed_size(names, *prop, *inner),
-        TNode::Reduce(prop, op, body) => { placed_reduction(alloc, names, *prop, *op, body.get()) }
+        TNode::Reduce(prop, op, body) => { placed_reduction(alloc, names, *prop, *op, body) }
         TNode::Script(variable) => placed_variable(names, *variable),
-        TNode::Of(object, part) => placed_part(alloc, names, *object, part.get()),
+        TNode::Of(object, part) => placed_part(alloc, names, *object, part),
         TNode::Select {
             base,
             first,
             last,
             low,
         } => match last {
-            None => placed_bit(alloc, names, base.get(), first.get(), *low),
-            Some(last) => placed_bits(alloc, names, base.get(), first.get(), last.get(), *low),
+            None => placed_bit(alloc, names, base, first, *low),
+            Some(last) => placed_bits(alloc, names, base, first, last, *low),
         },
-        TNode::Unary { op, arg } => placed_unary(alloc, names, *op, arg.get()),
-        TNode::Binary { op, left, right } => {
-            placed_binary(alloc, names, *op, left.get(), right.get())
-        }
-        TNode::Choice { test, yes, no } => {
-            placed_choice(alloc, names, test.get(), yes.get(), no.get())
-        }
-        TNode::Inside { left, set } => placed_inside(alloc, names, set.as_slice(), left.get()),
+        TNode::Unary { op, arg } => placed_unary(alloc, names, *op, arg),
+        TNode::Binary { op, left, right } => { placed_binary(alloc, names, *op, left, right) }
+        TNode::Choice { test, yes, no } => { placed_choice(alloc, names, test, yes, no) }
+        TNode::Inside { left, set } => placed_inside(alloc, names, set.as_slice(), left),
         TNode::Join { parts } => placed_join(alloc, names, parts.as_slice()),
-        TNode::Copies { count, parts } => {
-            placed_copies(alloc, names, parts.as_slice(), count.get())
-        }
-        TNode::Sign { signed, arg } => placed_sign(alloc, names, *signed, arg.get()),
+        TNode::Copies { count, parts } => { placed_copies(alloc, names, parts.as_slice(), count) }
+        TNode::Sign { signed, arg } => placed_sign(alloc, names, *signed, arg),
     };
     Ok(TExpr::new(e.width, e.signed, node?))
 }
 
+/// Such a copy of what is in a box.
 #[cycle(by_places)]
-fn placed_element(alloc: Global, names: &Names, prop: u32, index: &TExpr) -> Result<TNode, NoMemory>
+fn placed_child(alloc: Global, names: &Names, child: &Boxed<TExpr>) -> Result<TExpr, NoMemory>
+    ensures { IfOk result (λ r. expr_term r ≡ spec.by_places (mentioned names.now) (expr_term child.now)) }
+{
+    by_places(alloc, names, child.get())
+}
+
+#[cycle(by_places)]
+fn placed_element(
+    alloc: Global,
+    names: &Names,
+    prop: u32,
+    index: &Boxed<TExpr>,
+) -> Result<TNode, NoMemory>
     ensures { IfOk result (λ n. node_term n ≡ term.element (spec.place_among (mentioned names.now).props prop) (spec.by_places (mentioned names.now) (expr_term index.now))) }
 {
     let place = place_in(&names.props, prop)?;
-    TNode::element(alloc, place, by_places(alloc, names, index)?)
+    TNode::element(alloc, place, placed_child(alloc, names, index)?)
 }
 
 #[cycle(by_places)]
@@ -110,15 +117,15 @@ fn placed_cell(
     names: &Names,
     prop: u32,
     inner: u32,
-    first: &TExpr,
-    second: &TExpr,
+    first: &Boxed<TExpr>,
+    second: &Boxed<TExpr>,
 ) -> Result<TNode, NoMemory>
     ensures { IfOk result (λ n. node_term n ≡ term.cell (spec.place_among (mentioned names.now).props prop) inner (spec.by_places (mentioned names.now) (expr_term first.now)) (spec.by_places (mentioned names.now) (expr_term second.now))) }
 {
     let place = place_in(&names.props, prop)?;
     let (first, second) = both(
-        by_places(alloc, names, first),
-        by_places(alloc, names, second),
+        placed_child(alloc, names, first),
+        placed_child(alloc, names, second),
     )?;
     TNode::cell(alloc, place, inner, first, second)
 }
@@ -129,34 +136,39 @@ fn placed_reduction(
     names: &Names,
     prop: u32,
     op: Fold,
-    body: &TExpr,
+    body: &Boxed<TExpr>,
 ) -> Result<TNode, NoMemory>
     ensures { IfOk result (λ n. node_term n ≡ term.reduce (spec.place_among (mentioned names.now).props prop) op (spec.by_places (mentioned names.now) (expr_term body.now))) }
 {
     let place = place_in(&names.props, prop)?;
-    TNode::reduce(alloc, place, op, by_places(alloc, names, body)?)
+    TNode::reduce(alloc, place, op, placed_child(alloc, names, body)?)
 }
 
 #[cycle(by_places)]
-fn placed_part(alloc: Global, names: &Names, object: u32, part: &TExpr) -> Result<TNode, NoMemory>
+fn placed_part(
+    alloc: Global,
+    names: &Names,
+    object: u32,
+    part: &Boxed<TExpr>,
+) -> Result<TNode, NoMemory>
     ensures { IfOk result (λ n. node_term n ≡ term.of_object object (spec.by_places (mentioned names.now) (expr_term part.now))) }
 {
-    TNode::of_object(alloc, object, by_places(alloc, names, part)?)
+    TNode::of_object(alloc, object, placed_child(alloc, names, part)?)
 }
 
 #[cycle(by_places)]
 fn placed_bit(
     alloc: Global,
     names: &Names,
-    base: &TExpr,
-    index: &TExpr,
+    base: &Boxed<TExpr>,
+    index: &Boxed<TExpr>,
     low: i64,
 ) -> Result<TNode, NoMemory>
     ensures { IfOk result (λ n. node_term n ≡ term.bit_select (spec.by_places (mentioned names.now) (expr_term base.now)) (spec.by_places (mentioned names.now) (expr_term index.now)) low) }
 {
     let (base, index) = both(
-        by_places(alloc, names, base),
-        by_places(alloc, names, index),
+        placed_child(alloc, names, base),
+        placed_child(alloc, names, index),
     )?;
     TNode::bit_select(alloc, base, index, low)
 }
@@ -165,26 +177,31 @@ fn placed_bit(
 fn placed_bits(
     alloc: Global,
     names: &Names,
-    base: &TExpr,
-    first: &TExpr,
-    last: &TExpr,
+    base: &Boxed<TExpr>,
+    first: &Boxed<TExpr>,
+    last: &Boxed<TExpr>,
     low: i64,
 ) -> Result<TNode, NoMemory>
     ensures { IfOk result (λ n. node_term n ≡ term.part_select (spec.by_places (mentioned names.now) (expr_term base.now)) (spec.by_places (mentioned names.now) (expr_term first.now)) (spec.by_places (mentioned names.now) (expr_term last.now)) low) }
 {
     let bounds = both(
-        by_places(alloc, names, first),
-        by_places(alloc, names, last),
+        placed_child(alloc, names, first),
+        placed_child(alloc, names, last),
     );
-    let (base, (first, last)) = both(by_places(alloc, names, base), bounds)?;
+    let (base, (first, last)) = both(placed_child(alloc, names, base), bounds)?;
     TNode::part_select(alloc, base, first, last, low)
 }
 
 #[cycle(by_places)]
-fn placed_unary(alloc: Global, names: &Names, op: UnOp, arg: &TExpr) -> Result<TNode, NoMemory>
+fn placed_unary(
+    alloc: Global,
+    names: &Names,
+    op: UnOp,
+    arg: &Boxed<TExpr>,
+) -> Result<TNode, NoMemory>
     ensures { IfOk result (λ n. node_term n ≡ term.unary op (spec.by_places (mentioned names.now) (expr_term arg.now))) }
 {
-    TNode::unary(alloc, op, by_places(alloc, names, arg)?)
+    TNode::unary(alloc, op, placed_child(alloc, names, arg)?)
 }
 
 #[cycle(by_places)]
@@ -192,14 +209,14 @@ fn placed_binary(
     alloc: Global,
     names: &Names,
     op: BinOp,
-    left: &TExpr,
-    right: &TExpr,
+    left: &Boxed<TExpr>,
+    right: &Boxed<TExpr>,
 ) -> Result<TNode, NoMemory>
     ensures { IfOk result (λ n. node_term n ≡ term.binary op (spec.by_places (mentioned names.now) (expr_term left.now)) (spec.by_places (mentioned names.now) (expr_term right.now))) }
 {
     let (left, right) = both(
-        by_places(alloc, names, left),
-        by_places(alloc, names, right),
+        placed_child(alloc, names, left),
+        placed_child(alloc, names, right),
     )?;
     TNode::binary(alloc, op, left, right)
 }
@@ -208,14 +225,17 @@ fn placed_binary(
 fn placed_choice(
     alloc: Global,
     names: &Names,
-    test: &TExpr,
-    yes: &TExpr,
-    no: &TExpr,
+    test: &Boxed<TExpr>,
+    yes: &Boxed<TExpr>,
+    no: &Boxed<TExpr>,
 ) -> Result<TNode, NoMemory>
     ensures { IfOk result (λ n. node_term n ≡ term.choice (spec.by_places (mentioned names.now) (expr_term test.now)) (spec.by_places (mentioned names.now) (expr_term yes.now)) (spec.by_places (mentioned names.now) (expr_term no.now))) }
 {
-    let values = both(by_places(alloc, names, yes), by_places(alloc, names, no));
-    let (test, (yes, no)) = both(by_places(alloc, names, test), values)?;
+    let values = both(
+        placed_child(alloc, names, yes),
+        placed_child(alloc, names, no),
+    );
+    let (test, (yes, no)) = both(placed_child(alloc, names, test), values)?;
     TNode::choice(alloc, test, yes, no)
 }
 
@@ -224,12 +244,12 @@ fn placed_inside(
     alloc: Global,
     names: &Names,
     set: &[TRange],
-    left: &TExpr,
+    left: &Boxed<TExpr>,
 ) -> Result<TNode, NoMemory>
     ensures { IfOk result (λ n. node_term n ≡ term.inside (spec.by_places (mentioned names.now) (expr_term left.now)) (spec.ranges_by_places (mentioned names.now) (range_terms set.now))) }
 {
     let (left, set) = both(
-        by_places(alloc, names, left),
+        placed_child(alloc, names, left),
         placed_ranges(alloc, names, set),
     )?;
     TNode::inside(alloc, left, set)
@@ -247,22 +267,27 @@ fn placed_copies(
     alloc: Global,
     names: &Names,
     parts: &[TExpr],
-    count: &TExpr,
+    count: &Boxed<TExpr>,
 ) -> Result<TNode, NoMemory>
     ensures { IfOk result (λ n. node_term n ≡ term.copies (spec.by_places (mentioned names.now) (expr_term count.now)) (spec.all_by_places (mentioned names.now) (expr_terms parts.now))) }
 {
     let (count, parts) = both(
-        by_places(alloc, names, count),
+        placed_child(alloc, names, count),
         placed_all(alloc, names, parts),
     )?;
     TNode::copies(alloc, count, parts)
 }
 
 #[cycle(by_places)]
-fn placed_sign(alloc: Global, names: &Names, signed: bool, arg: &TExpr) -> Result<TNode, NoMemory>
+fn placed_sign(
+    alloc: Global,
+    names: &Names,
+    signed: bool,
+    arg: &Boxed<TExpr>,
+) -> Result<TNode, NoMemory>
     ensures { IfOk result (λ n. node_term n ≡ term.sign signed (spec.by_places (mentioned names.now) (expr_term arg.now))) }
 {
-    TNode::sign(alloc, signed, by_places(alloc, names, arg)?)
+    TNode::sign(alloc, signed, placed_child(alloc, names, arg)?)
 }
 
 /// Such copies of a list of expressions.

@@ -1,25 +1,24 @@
 // The values of the expressions of statements (IEEE 1800-2017, 10.7 and 11.6), each over the numbers of what it names alone.
 
-ghost use Rattle.std.specs.Prelude.{◌≡◌, max, IfOk};
+ghost use Rattle.std.specs.Prelude.{◌≡◌, ◌≤◌, [], IfOk};
 ghost use Rattle.svr_num.specs.Num.{read_of};
 ghost use Rattle.svr_script.specs.Numbered.{numbered, reading_of_world};
 ghost use Rattle.svr_typed.specs.ExprTerm.{expr_term, expr_terms};
 ghost use Rattle.svr_eval.specs.Reading.{reading_of};
-ghost use Rattle.svr_eval.specs.Value.{size_of, sign_of};
+ghost use Rattle.svr_eval.specs.Value.{size_of, sign_of, val};
 ghost use Rattle.svr_effect.specs.Computed.{alone_over, assigned_over, all_assigned_over, is_on_over};
 ghost use Rattle.svr_effect.specs.Mentions.{by_places, mentions, nothing, reading_at};
-ghost use Rattle.svr_effect.specs.Named.{mentioned};
 ghost use Rattle.svr_effect.specs.Objects.{placed};
 ghost use Rattle.svr_effect.specs.Stands.{IsComputable, AreComputable, IsWide};
 
-use crate::memory::both;
+use crate::memory::{both, pushed};
 use crate::mention::{Names, mention};
 use crate::numbered::numbered;
 use crate::objects::seen;
 use crate::places::by_places;
 use sqlite_items::Items;
 use std::alloc::Global;
-use svr_eval::{Assign, Env, value, value_at};
+use svr_eval::{Assign, Env, value_at};
 use svr_num::Bits;
 use svr_typed::{NoMemory, TExpr};
 use svr_world::World;
@@ -31,19 +30,12 @@ struct Placed {
     objects: Assign,
 }
 
-/// What an expression over all objects together names.
-fn names_of(alloc: Global, over_all: &TExpr) -> Result<Names, NoMemory>
-    ensures { IfOk result (λ n. mentioned n ≡ mentions nothing (expr_term over_all.now)) }
-{
-    mention(over_all, Names::new(alloc))
-}
-
 /// An expression over all objects together as one over what it names alone.
 fn placed_over(alloc: Global, world: &World, over_all: &TExpr) -> Result<Placed, NoMemory>
     ensures expr { IfOk result (λ p. expr_term p.expr ≡ by_places (mentions nothing (expr_term over_all.now)) (expr_term over_all.now)) }
     ensures objects { IfOk result (λ p. reading_of p.objects ≡ reading_at world.now (mentions nothing (expr_term over_all.now))) }
 {
-    let names = names_of(alloc, over_all)?;
+    let names = mention(over_all, Names::new(alloc))?;
     let objects = seen(alloc, world, &names);
     let (expr, objects) = both(by_places(alloc, &names, over_all), objects)?;
     Ok(Placed { expr, objects })
@@ -55,7 +47,24 @@ fn over_named(alloc: Global, world: &World, e: &TExpr) -> Result<Placed, NoMemor
     ensures objects { IfOk result (λ p. reading_of p.objects ≡ reading_at world.now (mentions nothing (numbered (expr_term e.now)))) }
 {
     let over_all = numbered(alloc, e)?;
-    placed_over(alloc, world, &over_all)
+    let placed = placed_over(alloc, world, &over_all);
+    drop(over_all);
+    placed
+}
+
+/// The value of an expression at a width that is no less than its own.
+fn computed_at(alloc: Global, world: &World, e: &TExpr, width: u8) -> Result<Bits, NoMemory>
+    requires computed { IsComputable (reading_of_world world.now) (expr_term e.now) }
+    requires wide { e.now.width ≤ width }
+    requires high { width ≤ 64 }
+    ensures value { IfOk result (λ v. v.value ≡ val (reading_of_world world.now) [] (numbered (expr_term e.now)) width (sign_of (expr_term e.now))) }
+    ensures width { IfOk result (λ v. v.width ≡ width) }
+{
+    let own = over_named(alloc, world, e)?;
+    let outside = Env::new();
+    let found = value_at(&own.expr, width, e.signed, &own.objects, &outside);
+    drop(own);
+    Ok(found)
 }
 
 /// The value of an expression alone.
@@ -64,16 +73,7 @@ pub(crate) fn alone(alloc: Global, world: &World, e: &TExpr) -> Result<Bits, NoM
     ensures value { IfOk result (λ v. v.value ≡ alone_over (reading_of_world world.now) (expr_term e.now)) }
     ensures width { IfOk result (λ v. v.width ≡ size_of (expr_term e.now)) }
 {
-    let own = over_named(alloc, world, e)?;
-    let outside = Env::new();
-    Ok(value(&own.expr, &own.objects, &outside))
-}
-
-/// The greater of two widths.
-fn wider(first: u8, second: u8) -> u8
-    ensures { result ≡ max first second }
-{
-    first.max(second)
+    computed_at(alloc, world, e, e.width)
 }
 
 /// The value that a left side of so many bits takes: computed at the greater of the two sizes, and cut.
@@ -82,10 +82,8 @@ pub(crate) fn assigned(alloc: Global, world: &World, width: u8, e: &TExpr) -> Re
     requires wide { IsWide width }
     ensures { IfOk result (λ v. v ≡ assigned_over (reading_of_world world.now) width (expr_term e.now)) }
 {
-    let own = over_named(alloc, world, e)?;
-    let whole = wider(width, e.width);
-    let outside = Env::new();
-    let computed = value_at(&own.expr, whole, e.signed, &own.objects, &outside);
+    let whole = width.max(e.width);
+    let computed = computed_at(alloc, world, e, whole)?;
     Ok(computed.cut(width).value())
 }
 
@@ -102,7 +100,7 @@ pub(crate) fn all_assigned(
 {
     let mut numbers = Items::new(alloc);
     for e in values {
-        numbers.push(assigned(alloc, world, width, e)?)?;
+        numbers = pushed(numbers, assigned(alloc, world, width, e))?;
     }
     Ok(numbers)
 }

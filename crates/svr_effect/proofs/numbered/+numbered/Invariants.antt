@@ -15,35 +15,38 @@ invariant-numbered_ranges-loop-range l = map range_term l.copies ≡ map (λ r. 
 abbrev pub decreases-numbered : goal.decreases-numbered
 decreases-numbered l = 8 * size-TExpr l.e.now + 1
 
+abbrev pub decreases-numbered_child : goal.decreases-numbered_child
+decreases-numbered_child l = 8 * size-TExpr l.child.now + 2
+
 abbrev pub decreases-numbered_element : goal.decreases-numbered_element
-decreases-numbered_element l = 8 * size-TExpr l.index.now + 2
+decreases-numbered_element l = 8 * size-TExpr l.index.now + 3
 
 abbrev pub decreases-numbered_cell : goal.decreases-numbered_cell
-decreases-numbered_cell l = 8 * (max (size-TExpr l.first.now) (size-TExpr l.second.now)) + 2
+decreases-numbered_cell l = 8 * (max (size-TExpr l.first.now) (size-TExpr l.second.now)) + 3
 
 abbrev pub decreases-numbered_reduction : goal.decreases-numbered_reduction
-decreases-numbered_reduction l = 8 * size-TExpr l.body.now + 2
+decreases-numbered_reduction l = 8 * size-TExpr l.body.now + 3
 
 abbrev pub decreases-numbered_part : goal.decreases-numbered_part
 decreases-numbered_part l = 8 * size-TExpr l.part.now + 2
 
 abbrev pub decreases-numbered_bit : goal.decreases-numbered_bit
-decreases-numbered_bit l = 8 * (max (size-TExpr l.base.now) (size-TExpr l.index.now)) + 2
+decreases-numbered_bit l = 8 * (max (size-TExpr l.base.now) (size-TExpr l.index.now)) + 3
 
 abbrev pub decreases-numbered_bits : goal.decreases-numbered_bits
-decreases-numbered_bits l = 8 * (max (size-TExpr l.base.now) (max (size-TExpr l.first.now) (size-TExpr l.last.now))) + 2
+decreases-numbered_bits l = 8 * (max (size-TExpr l.base.now) (max (size-TExpr l.first.now) (size-TExpr l.last.now))) + 3
 
 abbrev pub decreases-numbered_unary : goal.decreases-numbered_unary
-decreases-numbered_unary l = 8 * size-TExpr l.arg.now + 2
+decreases-numbered_unary l = 8 * size-TExpr l.arg.now + 3
 
 abbrev pub decreases-numbered_sign : goal.decreases-numbered_sign
-decreases-numbered_sign l = 8 * size-TExpr l.arg.now + 2
+decreases-numbered_sign l = 8 * size-TExpr l.arg.now + 3
 
 abbrev pub decreases-numbered_binary : goal.decreases-numbered_binary
-decreases-numbered_binary l = 8 * (max (size-TExpr l.left.now) (size-TExpr l.right.now)) + 2
+decreases-numbered_binary l = 8 * (max (size-TExpr l.left.now) (size-TExpr l.right.now)) + 3
 
 abbrev pub decreases-numbered_choice : goal.decreases-numbered_choice
-decreases-numbered_choice l = 8 * (max (size-TExpr l.test.now) (max (size-TExpr l.yes.now) (size-TExpr l.no.now))) + 2
+decreases-numbered_choice l = 8 * (max (size-TExpr l.test.now) (max (size-TExpr l.yes.now) (size-TExpr l.no.now))) + 3
 
 abbrev pub decreases-numbered_inside : goal.decreases-numbered_inside
 decreases-numbered_inside l = 8 * (max (goal.size-numbered_inside l) (size-TExpr l.left.now)) + 5

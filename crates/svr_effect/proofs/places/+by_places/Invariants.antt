@@ -16,35 +16,38 @@ invariant-placed_ranges-loop-range l = map range_term l.copies ≡ map (λ r. sp
 abbrev pub decreases-by_places : goal.decreases-by_places
 decreases-by_places l = 8 * size-TExpr l.e.now + 1
 
+abbrev pub decreases-placed_child : goal.decreases-placed_child
+decreases-placed_child l = 8 * size-TExpr l.child.now + 2
+
 abbrev pub decreases-placed_element : goal.decreases-placed_element
-decreases-placed_element l = 8 * size-TExpr l.index.now + 2
+decreases-placed_element l = 8 * size-TExpr l.index.now + 3
 
 abbrev pub decreases-placed_cell : goal.decreases-placed_cell
-decreases-placed_cell l = 8 * (max (size-TExpr l.first.now) (size-TExpr l.second.now)) + 2
+decreases-placed_cell l = 8 * (max (size-TExpr l.first.now) (size-TExpr l.second.now)) + 3
 
 abbrev pub decreases-placed_reduction : goal.decreases-placed_reduction
-decreases-placed_reduction l = 8 * size-TExpr l.body.now + 2
+decreases-placed_reduction l = 8 * size-TExpr l.body.now + 3
 
 abbrev pub decreases-placed_part : goal.decreases-placed_part
-decreases-placed_part l = 8 * size-TExpr l.part.now + 2
+decreases-placed_part l = 8 * size-TExpr l.part.now + 3
 
 abbrev pub decreases-placed_bit : goal.decreases-placed_bit
-decreases-placed_bit l = 8 * (max (size-TExpr l.base.now) (size-TExpr l.index.now)) + 2
+decreases-placed_bit l = 8 * (max (size-TExpr l.base.now) (size-TExpr l.index.now)) + 3
 
 abbrev pub decreases-placed_bits : goal.decreases-placed_bits
-decreases-placed_bits l = 8 * (max (size-TExpr l.base.now) (max (size-TExpr l.first.now) (size-TExpr l.last.now))) + 2
+decreases-placed_bits l = 8 * (max (size-TExpr l.base.now) (max (size-TExpr l.first.now) (size-TExpr l.last.now))) + 3
 
 abbrev pub decreases-placed_unary : goal.decreases-placed_unary
-decreases-placed_unary l = 8 * size-TExpr l.arg.now + 2
+decreases-placed_unary l = 8 * size-TExpr l.arg.now + 3
 
 abbrev pub decreases-placed_sign : goal.decreases-placed_sign
-decreases-placed_sign l = 8 * size-TExpr l.arg.now + 2
+decreases-placed_sign l = 8 * size-TExpr l.arg.now + 3
 
 abbrev pub decreases-placed_binary : goal.decreases-placed_binary
-decreases-placed_binary l = 8 * (max (size-TExpr l.left.now) (size-TExpr l.right.now)) + 2
+decreases-placed_binary l = 8 * (max (size-TExpr l.left.now) (size-TExpr l.right.now)) + 3
 
 abbrev pub decreases-placed_choice : goal.decreases-placed_choice
-decreases-placed_choice l = 8 * (max (size-TExpr l.test.now) (max (size-TExpr l.yes.now) (size-TExpr l.no.now))) + 2
+decreases-placed_choice l = 8 * (max (size-TExpr l.test.now) (max (size-TExpr l.yes.now) (size-TExpr l.no.now))) + 3
 
 abbrev pub decreases-placed_inside : goal.decreases-placed_inside
 decreases-placed_inside l = 8 * (max (goal.size-placed_inside l) (size-TExpr l.left.now)) + 5

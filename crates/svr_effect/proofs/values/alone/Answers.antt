@@ -1,18 +1,18 @@
-use Rattle.std.proofs.Common.{◌∙◌}
-use Rattle.svr_eval.specs.Reading.{reading_of}
+use Rattle.std.proofs.Common.{◌≡◌, ℕ, sym, subst}
+use Rattle.std.specs.Prelude.{[], IfOk}
+use Rattle.svr_typed.specs.ExprTerm.{expr_term}
+use Rattle.svr_eval.specs.Value.{sign_of, val}
+use Rattle.svr_script.specs.Numbered.{numbered, reading_of_world}
 use Rattle.svr_effect.proofs.Computed as computed
 use Rattle.svr_effect.proofs.values.alone.Goals as goal
 
-pub value-requires-clause-typed : goal.value-requires-clause-typed
-value-requires-clause-typed c = computed.typed_over c.args.world.now (reading_of c.in_ok-own.own.objects) c.args.e.now c.in_ok-own.own.expr c.new-outside.result c.in_ok-own.ensures.expr c.in_ok-own.ensures.objects c.new-outside.ensures c.requires
-
-pub value-requires-clause-reads : goal.value-requires-clause-reads
-value-requires-clause-reads c = computed.reads_over c.args.world.now (reading_of c.in_ok-own.own.objects) c.args.e.now c.in_ok-own.own.expr c.new-outside.result c.in_ok-own.ensures.expr c.in_ok-own.ensures.objects c.new-outside.ensures c.requires
+pub computed_at-requires-clause-high : goal.computed_at-requires-clause-high
+computed_at-requires-clause-high c = computed.at_most c.args.e.now c.requires.own
 
 pub returns-clause-value : goal.returns-clause-value
 returns-clause-value c =
-    c.value.ensures.value ∙ computed.value_alone c.args.world.now (reading_of c.in_ok-own.own.objects) c.args.e.now c.in_ok-own.own.expr c.new-outside.result c.in_ok-own.ensures.expr c.in_ok-own.ensures.objects c.new-outside.ensures c.requires
+    let e = expr_term c.args.e.now in
+    subst (λ (n : ℕ). IfOk c.computed_at.result (λ v. v.value ≡ val (reading_of_world c.args.world.now) [] (numbered e) n (sign_of e))) (sym (computed.own_width c.args.e.now c.requires.own)) c.computed_at.ensures.value
 
 pub returns-clause-width : goal.returns-clause-width
-returns-clause-width c =
-    c.value.ensures.width ∙ computed.size_alone c.args.world.now (reading_of c.in_ok-own.own.objects) c.args.e.now c.in_ok-own.own.expr c.new-outside.result c.in_ok-own.ensures.expr c.in_ok-own.ensures.objects c.new-outside.ensures c.requires
+returns-clause-width c = subst (λ (n : ℕ). IfOk c.computed_at.result (λ v. v.width ≡ n)) (sym (computed.own_width c.args.e.now c.requires.own)) c.computed_at.ensures.width
