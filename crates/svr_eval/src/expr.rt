@@ -312,7 +312,7 @@ pub(crate) fn fits(range: &TRange, left: &TExpr, a: &Assign, env: &Env) -> bool
 }
 
 /// The property that the expression as a whole is.
-pub fn property(e: &TExpr) -> Option<u32>
+pub(crate) fn property(e: &TExpr) -> Option<u32>
     ensures { result ≡ spec.property_of (expr_term e.now) }
 {
     match &e.node {

@@ -18,7 +18,7 @@ pub use examples::{
     memberships_are_as_worked_out, reductions_are_as_worked_out, selects_are_as_worked_out,
     shifts_are_as_worked_out, wholes_are_as_worked_out,
 };
-pub use expr::{property, value, value_at};
+pub use expr::{value, value_at};
 pub use item::{all_hold, holds};
 pub use operator::{
     Arithmetic, BinaryKind, Change, Comparison, Connective, Reduction, Shift, UnaryKind,
