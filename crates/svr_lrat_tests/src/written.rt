@@ -9,8 +9,9 @@ use svr_lrat_judge::LratVerdict;
 /// A step of one link: its start, its pivot and the linked clause. A literal is its variable, which is negative where the literal is a negation.
 type Chain = (u64, i64, u64);
 
-/// A derivation from clauses over three variables, with assumed literals: its clauses, these literals, its steps, its goal, and its text.
+/// A derivation from clauses, with assumed literals: the number of variables, its clauses, these literals, its steps, its goal, and its text.
 type Case = (
+    u64,
     &'static [&'static [i64]],
     &'static [i64],
     &'static [Chain],
@@ -20,14 +21,16 @@ type Case = (
 
 const CASES: [Case; 4] = [
     (
+        2,
         &[&[1, 2], &[-1, 2], &[-2]],
         &[],
         &[(1, 1, 2), (4, 2, 3)],
         5,
-        b"p cnf 3 3\n1 2 0\n-1 2 0\n-2 0\n4 2 0 2 1 0\n5 0 3 4 0\n",
+        b"p cnf 2 3\n1 2 0\n-1 2 0\n-2 0\n4 2 0 2 1 0\n5 0 3 4 0\n",
     ),
     // the goal has a literal, which is denied, and a step that nothing needs is left out
     (
+        3,
         &[&[1, 2], &[-1, 2], &[1, 3]],
         &[-3, -2],
         &[(3, 1, 2), (1, 1, 2)],
@@ -36,6 +39,7 @@ const CASES: [Case; 4] = [
     ),
     // the goal is a clause of the formula
     (
+        3,
         &[&[1, -2]],
         &[-1, 2, -1],
         &[],
@@ -43,7 +47,7 @@ const CASES: [Case; 4] = [
         b"p cnf 3 4\n1 -2 0\n-1 0\n2 0\n-1 0\n5 0 2 3 1 0\n",
     ),
     // and it is empty
-    (&[&[]], &[], &[], 1, b"p cnf 3 1\n0\n"),
+    (3, &[&[]], &[], &[], 1, b"p cnf 3 1\n0\n"),
 ];
 
 fn lit(number: i64) -> Lit {
@@ -64,12 +68,12 @@ fn lits(alloc: Global, numbers: &[i64]) -> Result<Vec<Lit>, AllocError> {
 /// Lets a value go.
 fn let_go<T: Drop>(_held: T) {}
 
-fn cnf(alloc: Global, table: &[&[i64]]) -> Result<Cnf, AllocError> {
+fn cnf(alloc: Global, vars: u64, table: &[&[i64]]) -> Result<Cnf, AllocError> {
     let mut clauses = Vec::new(alloc);
     for numbers in table {
         clauses.push(Clause::new(lits(alloc, numbers)?))?;
     }
-    Ok(Cnf { vars: 3, clauses })
+    Ok(Cnf { vars, clauses })
 }
 
 fn links(alloc: Global, pivot: i64, clause: u64) -> Result<Vec<Link>, AllocError> {
@@ -131,9 +135,9 @@ fn written_over(
 }
 
 fn is_written(alloc: Global, case: &Case) -> Result<bool, NoMemory> {
-    let (clauses, assume, chains, goal, text) = case;
+    let (vars, clauses, assume, chains, goal, text) = case;
     let assumed = lits(alloc, assume)?;
-    let cnf = cnf(alloc, clauses)?;
+    let cnf = cnf(alloc, *vars, clauses)?;
     match written_over(alloc, cnf, assumed.as_slice(), chains, *goal)? {
         Some(bytes) => Ok(bytes.as_slice() == *text),
         None => Ok(false),
@@ -150,7 +154,7 @@ fn writes_logs(rt: HostRuntime) -> Result<(), Fail> {
 
 #[test]
 fn accepts_what_is_written(rt: HostRuntime) -> Result<(), Fail> {
-    for (_, _, _, _, text) in &CASES {
+    for (_, _, _, _, _, text) in &CASES {
         assert!(rt; text.len() <= 100);
         assert!(rt; check_lrat(rt.alloc(), text) == Ok(LratVerdict::Accepted));
     }

@@ -14,13 +14,13 @@ use Rattle.svr_answer.specs.Ends.{Ends, printing}
 use Rattle.svr_answer.specs.Answers.{Refuses, too_long, refused}
 use Rattle.svr_command_check.specs.Answers.{RefusesCheck, too_long_to_check, no_file}
 use Rattle.svr_command_seq.specs.Answers.{RefusesSeq, too_long_to_produce, no_sequence}
-use Rattle.svr_command_cover.specs.Answers.{Covers}
+use Rattle.svr_command_cover.specs.Answers.{Covers, plain}
 use Rattle.svr_seq_lines.proofs.Excluded.{not_refused as accepted_not_refused}
 use Rattle.svr_status.specs.declared.status.Status.{Status}
 use Rattle.svr_status.specs.declared.status.Status.TheVariants.{AllOne, SomeZero, Usage, SomeGivenUp, Refused, Limited, ReadFault, WriteFault, NoMemory}
 use Rattle.svr_status.proofs.Statuses.{refused_no_usage, limited_no_usage, given_no_usage}
 use Rattle.svr_program.specs.Outcome.{Says, Writes}
-use Rattle.svr_program.specs.Complete.{IsAnswerable, IsAnswered, RunsAreComplete, IsSmall, IsAnsweredWhole, SmallRunsAreAnswered, IsCheckable, IsVerdict, ChecksAreComplete, IsProducible, IsProduced, LinesAreComplete, IsCoverable, CoverageIsComplete}
+use Rattle.svr_program.specs.Complete.{IsAnswerable, IsAnswered, RunsAreComplete, IsSmall, IsAnsweredWhole, SmallRunsAreAnswered, IsCheckable, IsVerdict, ChecksAreComplete, IsProducible, IsProduced, LinesAreComplete, IsCoverable, CoverageIsComplete, IsSmallCover, SmallCoverageIsAnswered}
 
 same_run : (words : List (List ℕ)) (a b : Run) → IsCommand words a → IsCommand words b → a ≡ b
 same_run words a b h k = h.options ∙ sym k.options
@@ -212,3 +212,35 @@ module _ (words : List (List ℕ)) (text : List ℕ) (able : IsCoverable words t
 
 pub coverage_is_complete : CoverageIsComplete
 coverage_is_complete words text status old new able writes read write = is_covered words text able status old new writes read write
+
+-- ---- coverage of small questions alone
+
+module _ (words : List (List ℕ)) (text : List ℕ) (small : IsSmallCover words text) where
+  abbrev can_cover : IsCoverable words text
+  can_cover = small.coverable
+
+  cover_not_given_up : (opts : Options) (output : Output) → IsCover words opts → Covers opts text ending.SomeGivenUp output → ⊥
+  cover_not_given_up opts output asked covers =
+      let same : opts ≡ can_cover.opts = same_options words opts can_cover.opts asked can_cover.asked in
+      let c : Covers can_cover.opts text ending.SomeGivenUp output = subst (λ (o : Options). Covers o text ending.SomeGivenUp output) same covers in
+      ends_answered c.run.design can_cover.opts (small.little ending.SomeGivenUp output c) (printing (plain can_cover.opts)) c.lines c.run.run
+
+  none_covered : (output : Output) → Says words text SomeGivenUp output → ⊥
+  none_covered output (inl (e, none, is)) = given_no_usage e
+  none_covered output (inr (inl (run, asked, answers))) = run_is_no_cover words run can_cover.opts asked can_cover.asked
+  none_covered output (inr (inr (inl (count, opts, asked, answers)))) = load_is_no_cover words count opts can_cover.opts asked can_cover.asked
+  none_covered output (inr (inr (inr (inl (asked, none))))) = none
+  none_covered output (inr (inr (inr (inr (inl (seed, many, asked, none)))))) = none
+  none_covered output (inr (inr (inr (inr (inr (opts, asked, answers)))))) = cover_not_given_up opts output asked answers.1
+
+  covered_whole : (status : Status) (old new : Sinks) → Writes words text status old new → IsAnswered status → IsAnsweredWhole status
+  covered_whole status old new writes (inl one) = inl one
+  covered_whole status old new writes (inr (inl some)) = inr (inl some)
+  covered_whole status old new writes (inr (inr (inl given))) =
+      let said = subst (λ (s : Status). Writes words text s old new) given writes in
+      absurd (none_covered said.0 said.1)
+  covered_whole status old new writes (inr (inr (inr memory))) = inr (inr memory)
+
+pub small_coverage_is_answered : SmallCoverageIsAnswered
+small_coverage_is_answered words text status old new small writes read write =
+    covered_whole words text small status old new writes (is_covered words text small.coverable status old new writes read write)

@@ -4,7 +4,7 @@ use Rattle.svr_limits.specs.declared.limit.TheConstants.{TEXT_LIMIT}
 use Rattle.svr_typed.specs.StmtTerm.{DesignTerm}
 use Rattle.svr_phase.specs.declared.options.Options.{Options}
 use Rattle.svr_script.specs.Ending as ending
-use Rattle.svr_script.specs.Ending.{Output}
+use Rattle.svr_script.specs.Ending.{Ending, Output}
 use Rattle.svr_run_budget_laws.specs.Runs.{CallsAskLittle}
 use Rattle.svr_run.specs.Telling.{Sinks}
 use Rattle.svr_lrat_file.specs.Views.{FileView}
@@ -107,3 +107,13 @@ pub record IsCoverable (words : List (List ℕ)) (text : List ℕ) : Type 0 wher
 abbrev pub CoverageIsComplete : Type 0
 CoverageIsComplete = (words : List (List ℕ)) (text : List ℕ) (status : Status) (old new : Sinks) → IsCoverable words text → Writes words text status old new
     → (status ≡ ReadFault → ⊥) → (status ≡ WriteFault → ⊥) → IsAnswered status
+
+-- such a text, in whose script each question that a call comes to is small
+pub record IsSmallCover (words : List (List ℕ)) (text : List ℕ) : Type 0 where
+  pub coverable : IsCoverable words text
+  pub little : (how : Ending) (output : Output) (covers : Covers coverable.opts text how output) → CallsAskLittle covers.run.design coverable.opts
+
+-- where no source or sink failed, none of its questions is given up
+abbrev pub SmallCoverageIsAnswered : Type 0
+SmallCoverageIsAnswered = (words : List (List ℕ)) (text : List ℕ) (status : Status) (old new : Sinks) → IsSmallCover words text → Writes words text status old new
+    → (status ≡ ReadFault → ⊥) → (status ≡ WriteFault → ⊥) → IsAnsweredWhole status

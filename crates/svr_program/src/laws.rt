@@ -1,6 +1,6 @@
 // What follows of what the top call promises.
 
-ghost use Rattle.svr_program.specs.Complete.{RunsAreComplete, SmallRunsAreAnswered, ChecksAreComplete, LinesAreComplete, CoverageIsComplete};
+ghost use Rattle.svr_program.specs.Complete.{RunsAreComplete, SmallRunsAreAnswered, ChecksAreComplete, LinesAreComplete, CoverageIsComplete, SmallCoverageIsAnswered};
 
 /// A run is complete: with words that ask for one, a script that nothing refuses, no fault and no limit, each call is answered or given up, or memory was wanting.
 pub fn runs_are_complete()
@@ -25,4 +25,9 @@ pub fn coverage_is_complete()
 /// A run of small questions is answered whole: where besides each question that a call comes to is over n bits with 2^(n+1) at most the budget, each call answers 1 or 0, or memory was wanting.
 pub fn small_runs_are_answered()
     ensures { SmallRunsAreAnswered }
+{}
+
+/// Coverage of small questions is answered whole: where besides each question that a call comes to is over n bits with 2^(n+1) at most the budget, each call answers 1 or 0 and the report is written, or memory was wanting.
+pub fn small_coverage_is_answered()
+    ensures { SmallCoverageIsAnswered }
 {}

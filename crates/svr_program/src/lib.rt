@@ -8,6 +8,6 @@ mod top;
 
 pub use laws::{
     checks_are_complete, coverage_is_complete, lines_are_complete, runs_are_complete,
-    small_runs_are_answered,
+    small_coverage_is_answered, small_runs_are_answered,
 };
 pub use top::run;
