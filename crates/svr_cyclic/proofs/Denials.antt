@@ -1,6 +1,6 @@
 -- A literal of a value that no assignment has: the value has none either, by the same refutation.
 use Rattle.std.proofs.Common.{◌≡◌, ℕ, ◌+◌, ◌<◌, ◌^◌, Bool, true, false, ◌||◌, List, [], ◌∷◌, ◌++◌, get_or, length, Option, Some, None, Result, Ok, Err, refl, sym, ap, ◌∙◌, subst, inl, inr}
-use Rattle.std.specs.Prelude.{if◌then◌else◌}
+use Rattle.std.specs.Prelude.{if◌then◌else◌, IfSome, is_some}
 use Rattle.std.proofs.lemmas.Bool.{or_cases, or_left, or_right, both_ways, false_from_ne_true, cond-true}
 use Rattle.std.proofs.lemmas.List.Concat.{flat_map-append}
 use Rattle.std.proofs.lemmas.List.Folds.{list_any-append}
@@ -29,6 +29,11 @@ use Rattle.svr_cyclic.specs.Denials.{IsOwn}
 use Rattle.svr_cyclic.proofs.Rows.{lits_at}
 use Rattle.svr_cyclic.proofs.Answered.{asked_fit, tried}
 use Rattle.svr_cyclic.proofs.Tries.{next_fixed}
+
+-- what is said of an option that has something is said of what it has
+pub some_of : {A : Type 0} (o : Option A) (P : A → Type 0) → IfSome o P → is_some o ≡ true → (x : A) × P x
+some_of None P h e = absurd (cc)
+some_of (Some x) P h e = (x, h)
 
 -- ---- a part of literals
 

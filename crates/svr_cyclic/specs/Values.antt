@@ -7,6 +7,8 @@ use Rattle.svr_phase.specs.declared.proof.ProofReason.{ProofReason}
 use Rattle.svr_phase.specs.declared.proof.ProofReason.TheVariants.{Cycle, Randc}
 use Rattle.svr_cyclic.specs.declared.look.Among.{Among}
 use Rattle.svr_cyclic.specs.declared.look.Among.TheVariants as among
+use Rattle.svr_cyclic.specs.declared.look.Fit.{Fit}
+use Rattle.svr_cyclic.specs.declared.look.Fit.TheVariants as fit
 use Rattle.svr_cyclic.specs.declared.look.Looked.{Looked}
 use Rattle.svr_cyclic.specs.declared.look.Looked.TheVariants as looked
 use Rattle.svr_cyclic.specs.declared.property.ValueEnd.{ValueEnd}
@@ -28,6 +30,12 @@ CanTake f chosen prop v = CanBe f (chosen ++ (prop, v) ∷ [])
 
 abbrev pub CannotTake : FrameTerm → List (ℕ × ℕ) → ℕ → ℕ → Type 0
 CannotTake f chosen prop v = CanTake f chosen prop v → ⊥
+
+-- whether a value fits, without a proof where it does not
+abbrev pub IsFit : Over → List (ℕ × ℕ) → Fit → Type 0
+IsFit o fixed fit.Can = CanBe o.frame fixed
+IsFit o fixed fit.Cannot = CanBe o.frame fixed → ⊥
+IsFit o fixed (fit.Spent log first) = IsGivenUp o log first
 
 -- the first of the values that fits
 pub record IsFirstOf (f : FrameTerm) (chosen : List (ℕ × ℕ)) (prop : ℕ) (vs : List ℕ) (v : ℕ) : Type 0 where

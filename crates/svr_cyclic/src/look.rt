@@ -1,18 +1,18 @@
 // The first of some values that fits.
 
-ghost use Rattle.std.specs.Prelude.{◌≡◌, ◌<◌, ◌^◌, [], ◌∷◌, ◌++◌, IfOk};
+ghost use Rattle.std.specs.Prelude.{◌≡◌, ◌<◌, ◌^◌, [], ◌∷◌, ◌++◌, IfOk, IfSome};
 ghost use Rattle.std.specs.List.{All};
 ghost use Rattle.svr_query.specs.declared.solver.Answer.TheVariants as answer;
 ghost use Rattle.svr_phase.specs.Proof.{fixed_lits};
 ghost use Rattle.svr_frame.specs.Frame.{frame_term, width_of};
 ghost use Rattle.svr_cyclic.specs.Questions.{CanAsk, IsRowOf, IsSought, IsTried, over, tried_of};
 ghost use Rattle.svr_cyclic.specs.Denials.{AreDenied};
-ghost use Rattle.svr_cyclic.specs.Values.{IsLooked, reason_of};
+ghost use Rattle.svr_cyclic.specs.Values.{IsFit, IsLooked, reason_of};
 
 use crate::ask::{Asking, Sought, Tried, assumed, try_value};
 use crate::memory::NoMemory;
 use crate::row::spelled;
-use crate::single::{Known, ask_each, copied, denied_among};
+use crate::single::{Known, ask_each, copied, denied_among, is_denied};
 use sqlite_items::Items;
 use std::alloc::Global;
 use svr_chain::Refutation;
@@ -35,6 +35,17 @@ pub(crate) enum Looked {
     /// None fits, with a proof for each.
     NoneFits(Items<Proof>),
     /// The question for one of them spent the budget.
+    Spent { log: Refutation, first: u64 },
+}
+
+/// Whether a value fits; no proof is kept where it does not.
+#[derive(Drop)]
+pub(crate) enum Fit {
+    /// Some assignment has it.
+    Can,
+    /// None has it.
+    Cannot,
+    /// The budget is spent; the steps from place `first` on were made for this question.
     Spent { log: Refutation, first: u64 },
 }
 
@@ -111,7 +122,104 @@ fn try_with(
     Ok(tried)
 }
 
-/// Tries the values in their order, up to the first that fits.
+/// Whether a value fits. No question is asked where one of its literals is denied, and where the value is refused its literals are asked for one by one.
+fn fit_of(
+    alloc: Global,
+    asking: &Asking<'_>,
+    solver: &mut Solver,
+    sought: &Sought<'_>,
+    known: &mut Known,
+    value: u64,
+    reason: ProofReason,
+) -> Result<Fit, NoMemory>
+    requires can { CanAsk asking.now solver.old }
+    requires sought { IsSought asking.now sought.now }
+    requires below { value < 2 ^ width_of (frame_term asking.now.frame.now) sought.now.prop }
+    requires denied { AreDenied asking.now sought.now solver.old.clauses known.old.denied.items }
+    ensures can { CanAsk asking.now solver.new }
+    ensures same { solver.new.clauses ≡ solver.old.clauses }
+    ensures denied { AreDenied asking.now sought.now solver.old.clauses known.new.denied.items }
+    ensures fits { IfOk result (IsFit (over asking.now solver.old.clauses) (sought.now.chosen.now ++ (sought.now.prop, value) ∷ [])) }
+{
+    let own = spelled(alloc, sought.row, value)?;
+    let lits = own.as_slice();
+    if is_denied(known.denied.as_slice(), lits) {
+        return Ok(Fit::Cannot);
+    }
+    let tried = try_value(alloc, asking, solver, sought, value, reason)?;
+    match tried {
+        Tried::Fits => Ok(Fit::Can),
+        Tried::Spent { log, first } => Ok(Fit::Spent { log, first }),
+        Tried::Refused(_) => {
+            ask_each(alloc, asking, solver, sought, lits, known)?;
+            Ok(Fit::Cannot)
+        }
+    }
+}
+
+/// The first of the values that is not refused: the one that fits, or that whose question spends the budget.
+fn first_found(
+    alloc: Global,
+    asking: &Asking<'_>,
+    solver: &mut Solver,
+    sought: &Sought<'_>,
+    known: &mut Known,
+    among: Among,
+    values: &[u64],
+) -> Result<Option<Looked>, NoMemory>
+    requires can { CanAsk asking.now solver.old }
+    requires sought { IsSought asking.now sought.now }
+    requires below { All (λ v. v < 2 ^ width_of (frame_term asking.now.frame.now) sought.now.prop) values.now }
+    requires denied { AreDenied asking.now sought.now solver.old.clauses known.old.denied.items }
+    ensures can { CanAsk asking.now solver.new }
+    ensures same { solver.new.clauses ≡ solver.old.clauses }
+    ensures denied { AreDenied asking.now sought.now solver.old.clauses known.new.denied.items }
+    ensures found { IfOk result (λ o. IfSome o (IsLooked (over asking.now solver.old.clauses) sought.now.chosen.now sought.now.prop (reason_of among sought.now.prop) values.now)) }
+{
+    for value in values {
+        let why = reason(among, sought.prop, *value);
+        let found = fit_of(alloc, asking, solver, sought, known, *value, why)?;
+        match found {
+            Fit::Can => return Ok(Some(Looked::Found(*value))),
+            Fit::Cannot => {}
+            Fit::Spent { log, first } => return Ok(Some(Looked::Spent { log, first })),
+        }
+    }
+    Ok(None)
+}
+
+/// Tries the values in their order, with a proof for each that is refused.
+fn none_fitting(
+    alloc: Global,
+    asking: &Asking<'_>,
+    solver: &mut Solver,
+    sought: &Sought<'_>,
+    known: &mut Known,
+    among: Among,
+    values: &[u64],
+) -> Result<Looked, NoMemory>
+    requires can { CanAsk asking.now solver.old }
+    requires sought { IsSought asking.now sought.now }
+    requires below { All (λ v. v < 2 ^ width_of (frame_term asking.now.frame.now) sought.now.prop) values.now }
+    requires denied { AreDenied asking.now sought.now solver.old.clauses known.old.denied.items }
+    ensures can { CanAsk asking.now solver.new }
+    ensures same { solver.new.clauses ≡ solver.old.clauses }
+    ensures looked { IfOk result (IsLooked (over asking.now solver.old.clauses) sought.now.chosen.now sought.now.prop (reason_of among sought.now.prop) values.now) }
+{
+    let mut proofs = Items::new(alloc);
+    for value in values {
+        let why = reason(among, sought.prop, *value);
+        let tried = try_with(alloc, asking, solver, sought, known, *value, why)?;
+        match tried {
+            Tried::Fits => return Ok(Looked::Found(*value)),
+            Tried::Refused(proof) => proofs.push(proof)?,
+            Tried::Spent { log, first } => return Ok(Looked::Spent { log, first }),
+        }
+    }
+    Ok(Looked::NoneFits(proofs))
+}
+
+/// The first of the values that fits; proofs are made only where none does.
 pub(crate) fn first_fitting(
     alloc: Global,
     asking: &Asking<'_>,
@@ -127,16 +235,10 @@ pub(crate) fn first_fitting(
     ensures same { solver.new.clauses ≡ solver.old.clauses }
     ensures looked { IfOk result (IsLooked (over asking.now solver.old.clauses) sought.now.chosen.now sought.now.prop (reason_of among sought.now.prop) values.now) }
 {
-    let mut proofs = Items::new(alloc);
     let mut known = Known::new(alloc);
-    for value in values {
-        let why = reason(among, sought.prop, *value);
-        let tried = try_with(alloc, asking, solver, sought, &mut known, *value, why)?;
-        match tried {
-            Tried::Fits => return Ok(Looked::Found(*value)),
-            Tried::Refused(proof) => proofs.push(proof)?,
-            Tried::Spent { log, first } => return Ok(Looked::Spent { log, first }),
-        }
+    let found = first_found(alloc, asking, solver, sought, &mut known, among, values)?;
+    if let Some(looked) = found {
+        return Ok(looked);
     }
-    Ok(Looked::NoneFits(proofs))
+    none_fitting(alloc, asking, solver, sought, &mut known, among, values)
 }

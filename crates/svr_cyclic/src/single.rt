@@ -1,8 +1,9 @@
 // Single literals of a property that no assignment has: a value that spells one needs no question.
 
-ghost use Rattle.std.specs.Prelude.{◌≡◌, [], ◌∷◌, ◌++◌, List, IfOk, IfSome};
+ghost use Rattle.std.specs.Prelude.{◌≡◌, [], ◌∷◌, ◌++◌, List, IfOk, IfSome, true};
 ghost use Rattle.std.specs.List.{All};
 ghost use Rattle.svr_chain.specs.declared.clause.Lit.{Lit};
+ghost use Rattle.svr_chain.specs.Views.{RefutationView};
 ghost use Rattle.svr_query.specs.Answer.{IsRefutation};
 ghost use Rattle.svr_cyclic.specs.Questions.{CanAsk, IsSought};
 ghost use Rattle.svr_cyclic.specs.Denials.{AreDenied, IsDenied, IsOwn, AreOwn};
@@ -140,6 +141,13 @@ pub(crate) fn denied_among<'a>(denied: &'a [Denied], own: &[Lit]) -> Option<&'a 
         }
     }
     None
+}
+
+/// Whether one of these literals is denied.
+pub(crate) fn is_denied(denied: &[Denied], own: &[Lit]) -> bool
+    ensures { (ks : List (List Lit)) (front roots : List Lit) → All (IsDenied ks front roots) denied.now → result ≡ true → (log : RefutationView) × IsRefutation ks (front ++ own.now ++ roots) log }
+{
+    denied_among(denied, own).is_some()
 }
 
 /// The steps of a refutation once more.

@@ -4,7 +4,7 @@ use Rattle.svr_frame.specs.Frame.{frame_term}
 use Rattle.svr_cyclic.specs.Questions.{CanAsk, over}
 use Rattle.svr_cyclic.specs.Values.{CannotTake, AreRefuted, reason_of}
 use Rattle.svr_cyclic.specs.Denials.{AreDenied}
-use Rattle.svr_cyclic.proofs.look.first_fitting.Given as goal
+use Rattle.svr_cyclic.proofs.look.none_fitting.Given as goal
 
 abbrev pub invariant-loop-value : goal.invariant-loop-value
 invariant-loop-value l = record {
