@@ -1,9 +1,10 @@
 -- What one clause more keeps
 use Rattle.std.proofs.Common.{◌≡◌, ℕ, suc, zero, ◌+◌, ◌-◌, ◌<◌, ◌≤◌, true, false, ◌||◌, nat_eq, cond, List, [], ◌∷◌, ◌++◌, length, map, refl, ap, ap₂, sym, ◌∙◌, subst, arith, Some, get_or, set, inl, inr}
 use Rattle.std.specs.Prelude.{◌⊎◌}
-use Rattle.std.specs.List.{slice_get}
+use Rattle.std.specs.List.{Contains, slice_get}
 use Rattle.std.proofs.lemmas.Bool.{or_cases, or_left, or_right, eq-eqb, eqb-true, false≢true}
 use Rattle.std.proofs.lemmas.List.{length-set, get_or-set_same, get_or-set_other, map-append}
+use Rattle.std.proofs.lemmas.List.Elements.{Contains-append_left, Contains-push}
 use Rattle.std.proofs.lemmas.List.Folds.{list_any-append}
 use Rattle.svr_arena.specs.Layout.{Layout, is_in, names, watched, with_front}
 use Rattle.svr_arena.specs.Arena.{body, lit_at, IsArena}
@@ -13,6 +14,7 @@ use Rattle.svr_watch.specs.declared.store.Held.{Held}
 use Rattle.svr_watch.specs.declared.store.Held.TheVariants.{Watched, Apart}
 use Rattle.svr_watch.specs.Codes.{lit_of}
 use Rattle.svr_watch.specs.Store.{StoreView, IsStore, IsAdded, IsApart, clauses_of, held_lits}
+use Rattle.svr_watch.specs.StoreFields.{AreListed}
 
 pub get-front : (hs : List Held) (x : Held) (i : ℕ) → i < length hs → slice_get (hs ++ x ∷ []) i ≡ slice_get hs i
 get-front [] x i h = absurd (omega arith)
@@ -78,6 +80,21 @@ store-apart s k st a = record {
   ];
   held_at = λ c i. let z = st.held_at c i in (z.0, get-front s.held (Apart k) z.0 (get-within s.held z.0 (Watched c) z.1) ∙ z.1);
 }
+
+-- the places of the clauses apart after a clause more
+pub listed-watched : (hs : List Held) (ps : List ℕ) (c : ℕ) → AreListed hs ps → AreListed (hs ++ Watched c ∷ []) ps
+listed-watched hs ps c f i k e =
+    elim (get-longer hs (Watched c) i (Apart k) e) [
+      | inl z ↦ f i k z
+      | inr z ↦ absurd (let y : Apart k ≡ Watched c = z.1 in cc)
+    ]
+
+pub listed-apart : (hs : List Held) (ps : List ℕ) (d : List Lit) → AreListed hs ps → AreListed (hs ++ Apart d ∷ []) (ps ++ length hs ∷ [])
+listed-apart hs ps d f i k e =
+    elim (get-longer hs (Apart d) i (Apart k) e) [
+      | inl z ↦ Contains-append_left ps (length hs ∷ []) i (f i k z)
+      | inr z ↦ subst (Contains (ps ++ length hs ∷ [])) (sym z.0) (Contains-push ps (length hs))
+    ]
 
 -- where lists lie under two fronts
 under-fronts : (l m c k : ℕ) (f g : ℕ → List ℕ) → f k ≡ g k → with_front l c (with_front m c f) k ≡ with_front l c (with_front m c g) k

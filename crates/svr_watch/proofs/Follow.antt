@@ -39,7 +39,7 @@ cut-apart c (x ∷ kept) rest d =
       | inr e ↦ both_ways (is_in c kept) (cut-apart c kept rest p.1) e
     ])
 
-other-first : (c x : ℕ) (xs : List ℕ) → is_in c (x ∷ xs) ≡ false → (x ≡ c → ⊥) × (is_in c xs ≡ false)
+pub other-first : (c x : ℕ) (xs : List ℕ) → is_in c (x ∷ xs) ≡ false → (x ≡ c → ⊥) × (is_in c xs ≡ false)
 other-first c x xs h =
     let p = or_parts (nat_eq c x) (is_in c xs) h in
     (λ e. both_ways (nat_eq c x) p.0 (eq-eqb c x (sym e)), p.1)

@@ -17,3 +17,4 @@ pub mod Learned
 pub mod Visits
 pub mod OfArena
 pub mod Named
+pub mod Parts

@@ -96,6 +96,22 @@ pub record AreWatchedCodes (xs : List ℕ) (ls : List Lit) : Type 0 where
 abbrev pub IsWithinOne : List (List Lit) → List Lit → ℕ → Type 0
 IsWithinOne ks c n = (k : List Lit) × (named ks n ≡ Some k) × (is_within k c ≡ true)
 
+-- a clause of the arena that is a part of these literals
+abbrev pub IsPartIn : Layout → List Lit → ℕ → Type 0
+IsPartIn a lits c = (is_in c (names a) ≡ true) × (is_within (lits_of a c) lits ≡ true)
+
+-- no clause on the list of the literal is a part of these
+abbrev pub IsPassedBy : Layout → List Lit → Lit → Type 0
+IsPassedBy a lits l = code_of l < a.codes → (c : ℕ) → is_in c (watched a (code_of l)) ≡ true → is_within (lits_of a c) lits ≡ false
+
+-- the clause at that place is apart from the arena and a part of these literals
+abbrev pub IsPartAt : List Held → List Lit → ℕ → Type 0
+IsPartAt hs lits i = (k : List Lit) × (slice_get hs i ≡ Some (Apart k)) × (is_within k lits ≡ true)
+
+-- no clause at that place is apart from the arena and a part of these literals
+abbrev pub IsNoPart : List Held → List Lit → ℕ → Type 0
+IsNoPart hs lits i = (k : List Lit) → slice_get hs i ≡ Some (Apart k) → is_within k lits ≡ false
+
 -- how many distinct literals a clause has
 abbrev pub distinct_in : List Lit → ℕ
 distinct_in [] = 0

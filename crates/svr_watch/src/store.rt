@@ -13,7 +13,7 @@ ghost use Rattle.svr_watch.specs.Codes.{code_of, lit_of};
 ghost use Rattle.svr_watch.specs.Store.{IsAdded, IsApart, IsRoomier, IsStore, IsWithinOne, clauses_of, held_lits, lits_of, watching, KeepsStore};
 
 use crate::codes::{code_of, watched_codes};
-use crate::find::find_part;
+use crate::find::{apart_part, watched_part};
 use std::alloc::{AllocError, Global};
 use std::marker::Model;
 use svr_arena::Arena;
@@ -45,6 +45,8 @@ pub struct Store {
     held: Vec<Held>,
     /// The numbers of the clauses in the arena by their names.
     numbers: Vec<u64>,
+    /// The places of the clauses apart from the arena.
+    apart: Vec<usize>,
 }
 
 impl Model for Store {
@@ -71,6 +73,7 @@ impl Store {
             arena,
             held: Vec::new(alloc),
             numbers: Vec::new(alloc),
+            apart: Vec::new(alloc),
         })
     }
 
@@ -99,8 +102,11 @@ impl Store {
         ensures added { OnOk result (self.new ≡ record self.old { held = self.old.held ++ Apart clause ∷ [] }) }
         ensures err { OnErr result (self.new ≡ self.old) }
     {
+        let place = self.held.len();
         self.held.reserve(1)?;
+        self.apart.reserve(1)?;
         self.held.push_reserved(Held::Apart(clause));
+        self.apart.push_reserved(place);
         Ok(())
     }
 
@@ -154,8 +160,10 @@ impl Store {
         ensures some { IfSome result (IsWithinOne (clauses_of self.now) lits.now) }
         ensures none { IfNone result (is_repeated (clauses_of self.now) lits.now ≡ false) }
     {
-        let _ = self.vars();
-        find_part(&self.arena, self.held.as_slice(), lits)
+        match watched_part(&self.arena, lits) {
+            Some(clause) => Some(self.number(clause)),
+            None => apart_part(self.held.as_slice(), self.apart.as_slice(), lits),
+        }
     }
 
     /// How many clauses there are.

@@ -3,7 +3,7 @@ use Rattle.svr_arena.specs.Layout.{Layout, names, is_in, watched, with_front}
 use Rattle.svr_arena.specs.Arena.{body}
 use Rattle.svr_watch.specs.declared.store.Held.TheVariants.{Watched}
 use Rattle.svr_watch.specs.StoreFields.{store_view}
-use Rattle.svr_watch.proofs.Adding.{roomier-store, store-more, store-added, added-lists, in-old, in-new, table-named, table-numbered, table-positive}
+use Rattle.svr_watch.proofs.Adding.{roomier-store, store-more, store-added, added-lists, in-old, in-new, table-named, table-numbered, table-positive, listed-watched}
 use Rattle.svr_watch.proofs.store.Store.add.Goals as goal
 
 pub invariant_of-self-in_err-grow : goal.invariant_of-self-in_err-grow
@@ -17,6 +17,7 @@ invariant_of-self-in_err-grow c =
       named = λ d i. g.kept d (v.named d i);
       numbered = λ d i. let q = g.same d (v.named d i) in rw (e, q) (v.numbered d i);
       positive = λ d i. let q = g.same d (v.named d i) in rw q (v.positive d i);
+      listed = rw e v.listed;
     }
 
 pub invariant_of-self-in_err-reserve-2 : goal.invariant_of-self-in_err-reserve-2
@@ -36,6 +37,7 @@ invariant_of-self-in_err-reserve-2 c =
       named = λ d i. g.kept d (v.named d (back d i));
       numbered = λ d i. let q = g.same d (v.named d (back d i)) in rw (e, q) (v.numbered d (back d i));
       positive = λ d i. let q = g.same d (v.named d (back d i)) in rw q (v.positive d (back d i));
+      listed = rw e v.listed;
     }
 
 pub invariant_of-self-2 : goal.invariant_of-self-2
@@ -77,6 +79,7 @@ invariant_of-self-2 c =
       named = λ d i. rw t (table-named s.held (names s.arena) os ns cl g.kept g.same rm fr v.named v.numbered v.positive d (ap (is_in d) (sym nb) ∙ i));
       numbered = λ d i. rw (hs, t) (table-numbered s.held (names s.arena) os ns cl g.kept g.same rm fr v.named v.numbered v.positive d (ap (is_in d) (sym nb) ∙ i));
       positive = λ d i. rw t (table-positive s.held (names s.arena) os ns cl g.kept g.same rm fr v.named v.numbered v.positive d (ap (is_in d) (sym nb) ∙ i));
+      listed = rw hs (listed-watched s.held c.self.inside.apart.items cl v.listed);
     }
 
 pub returns-clause-added : goal.returns-clause-added
