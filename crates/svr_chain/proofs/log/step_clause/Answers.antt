@@ -1,8 +1,7 @@
-use Rattle.std.proofs.Common.{◌≡◌, ◌∙◌, List, Ok, Err, Some, refl, sym, ap, subst}
+use Rattle.std.proofs.Common.{◌≡◌, ◌∙◌, List, Ok, Err, Some, refl, ap, subst}
 use Rattle.svr_chain.specs.declared.clause.Lit.{Lit}
 use Rattle.svr_chain.specs.Log.{named, after_links}
 use Rattle.svr_chain.specs.Same.{SameLits, SameResult}
-use Rattle.svr_chain.specs.Marks.{held}
 use Rattle.svr_chain.specs.Views.{StepView}
 use Rattle.svr_chain.proofs.Chains.{step-none, step-judged, step-made, held-ok, held-err}
 use Rattle.svr_chain.proofs.log.step_clause.Goals as goal

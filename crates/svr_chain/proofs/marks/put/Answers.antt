@@ -1,4 +1,4 @@
-use Rattle.std.proofs.Common.{◌≡◌, ◌∷◌, ◌++◌, [], ◌∙◌, length, sym, subst}
+use Rattle.std.proofs.Common.{◌≡◌, ◌∙◌, length, sym, subst}
 use Rattle.svr_chain.specs.Marks.{AreMarked, IsNoted}
 use Rattle.svr_chain.proofs.MarkLemmas.{marked-put}
 use Rattle.svr_chain.proofs.marks.put.Goals as goal

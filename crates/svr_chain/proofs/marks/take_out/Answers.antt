@@ -1,4 +1,4 @@
-use Rattle.std.proofs.Common.{◌≡◌, ◌<◌, ◌≤◌, ◌∙◌, length, get_or, arith}
+use Rattle.std.proofs.Common.{◌<◌, ◌≤◌, length, arith}
 use Rattle.svr_chain.proofs.MarkLemmas.{has-less, marked-moved, marked-last}
 use Rattle.svr_chain.proofs.marks.take_out.Goals as goal
 

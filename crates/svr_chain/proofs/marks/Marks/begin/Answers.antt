@@ -1,4 +1,4 @@
-use Rattle.std.proofs.Common.{◌≡◌, ◌∙◌, false, subst, sym, ap}
+use Rattle.std.proofs.Common.{false, subst, sym, ap}
 use Rattle.svr_chain.specs.declared.clause.Lit.{Lit}
 use Rattle.svr_chain.specs.Clauses.{has}
 use Rattle.svr_chain.specs.Marks.{AreMarked}

@@ -1,6 +1,4 @@
-use Rattle.std.proofs.Common.{◌≡◌, ◌∙◌, ap, subst, List}
-use Rattle.std.specs.Prelude.{IfSome, IfNone}
-use Rattle.svr_chain.specs.declared.clause.Lit.{Lit}
+use Rattle.std.proofs.Common.{◌≡◌, ◌∙◌, ap}
 use Rattle.svr_chain.specs.Clauses.{has}
 use Rattle.svr_chain.proofs.MarkLemmas.{held-some}
 use Rattle.svr_chain.proofs.marks.Marks.has.Goals as goal

@@ -1,4 +1,4 @@
-use Rattle.std.proofs.Common.{◌≡◌, ◌&&◌, ◌∙◌, not, get_or, sym, ap}
+use Rattle.std.proofs.Common.{◌&&◌, ◌∙◌, not, get_or, sym, ap}
 use Rattle.svr_chain.specs.Clauses.{has, same_lit}
 use Rattle.svr_chain.proofs.MarkLemmas.{has-without_none}
 use Rattle.svr_chain.proofs.marks.Marks.remove.Goals as goal

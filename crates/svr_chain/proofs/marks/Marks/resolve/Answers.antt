@@ -1,4 +1,4 @@
-use Rattle.std.proofs.Common.{◌≡◌, ◌∙◌, false, get_or}
+use Rattle.std.proofs.Common.{◌∙◌, false, get_or}
 use Rattle.svr_chain.specs.declared.clause.Lit.{Lit}
 use Rattle.svr_chain.proofs.Turns.{differ}
 use Rattle.svr_chain.proofs.MarkLemmas.{join-none, join-more, join-left, join-done}
