@@ -14,7 +14,7 @@ pub fn learn_from(
     cnf: &[Clause],
     search: &mut Search,
     steps: &mut Vec<Step>,
-    order: &mut Order,
+    order: &mut Order<'_>,
     number: u64,
 ) -> Result<usize, NoMemory>
     requires fault { IsFault search.old.clauses search.old.entries number }
@@ -29,6 +29,7 @@ pub fn learn_from(
     ensures grown { IfOk result (λ n. IsGrown search.new.clauses (take n search.old.entries) search.new.entries) }
 {
     let present = search.level();
+    order.fill()?;
     let learned = search.analyse(number)?;
     order.bump(&learned);
     order.put_back(search.entries(), present.saturating_sub(learned.level));

@@ -119,7 +119,7 @@ pub fn first_open(search: &Search, prefer: &[bool]) -> Option<Lit>
 }
 
 /// The next decision, `None` where every variable is set. The order is not asked where it has none that is open.
-fn next_open(search: &Search, prefer: &[bool], order: &mut Order) -> Option<Lit>
+fn next_open(search: &Search, prefer: &[bool], order: &mut Order<'_>) -> Option<Lit>
     requires { length prefer.now ≡ search.now.vars }
     ensures open { IfSome result (λ l. value_in search.now.entries l ≡ None) }
     ensures within { IfSome result (IsWithin search.now.vars) }
@@ -246,7 +246,7 @@ pub fn run(
     ensures spent { IfOk result (λ r. r ≡ Found.Spent
         → length steps.old.items + budget ≤ length steps.new.items) }
 {
-    let mut order = Order::new(alloc, prefer)?;
+    let mut order = Order::new(alloc, prefer);
     let mut restarts = Restarts::new();
     let mut seen = Seen {
         lits: 0,
