@@ -9,6 +9,7 @@ use Rattle.svr_trail.specs.declared.Entry.{Entry}
 use Rattle.svr_trail.specs.Trail.{Each}
 use Rattle.svr_cdcl.specs.Search.{SearchView, IsSearch, at_end, at_level}
 use Rattle.svr_query.specs.Logged.{IsAsked}
+use Rattle.svr_query.proofs.Fronts.{front-of}
 use Rattle.svr_trail.proofs.Trails.{Each-push, not_none}
 
 -- so many levels begin before a place, and the others do not; what was decided before it is assumed
@@ -26,18 +27,41 @@ pub none_if : (r : Option ℕ) → is_some r ≡ false → r ≡ None
 none_if None e = refl
 none_if (Some n) e = cc
 
+-- the trail at the end of a level
+module _ (s : SearchView) where
+  level-below : (n : ℕ) → n < length s.ends → at_level s n ≡ at_end s n
+  level-below n q = ap (λ z. take z s.entries) (get_or_default s.ends n (length s.entries) 0 q)
+
+  level-present : (n : ℕ) → n ≡ length s.ends → at_level s n ≡ s.entries
+  level-present n e =
+      let y : get_or s.ends n (length s.entries) ≡ length s.entries = ap (λ z. get_or s.ends z (length s.entries)) e ∙ past s.ends (length s.entries) in
+      ap (λ z. take z s.entries) y ∙ take_all (length s.entries) s.entries (omega arith)
+
+  -- what is left where the trail is taken back to it
+  pub level-kept : (t : SearchView) (n : ℕ) → n ≤ length s.ends → (n < length s.ends → t ≡ record s { entries = at_end s n; ends = take n s.ends }) → (n ≡ length s.ends → t ≡ s)
+      → t.entries ≡ at_level s n
+  level-kept t n o back present =
+      elim (cases_lt n (length s.ends)) [
+        | inl q ↦ ap (λ (z : SearchView). z.entries) (back q) ∙ sym (level-below n q)
+        | inr q ↦ (let e : n ≡ length s.ends = omega (arith, o, q) in ap (λ (z : SearchView). z.entries) (present e) ∙ sym (level-present n e))
+      ]
+
+  level-within : IsSearch s → (n : ℕ) → n ≤ length s.ends → get_or s.ends n (length s.entries) ≤ length s.entries
+  level-within k n o =
+      elim (cases_lt n (length s.ends)) [
+        | inl q ↦ omega (arith, get_or_default s.ends n (length s.entries) 0 q, k.short n q)
+        | inr q ↦
+            let e : n ≡ length s.ends = omega (arith, o, q) in
+            let y : get_or s.ends n (length s.entries) ≡ length s.entries = ap (λ z. get_or s.ends z (length s.entries)) e ∙ past s.ends (length s.entries) in
+            omega (arith, y)
+      ]
+
+  pub level-front : IsSearch s → (t : SearchView) (n : ℕ) → n ≤ length s.ends → t.entries ≡ at_level s n → (length t.entries ≤ length s.entries) × (t.entries ≡ take (length t.entries) s.entries)
+  level-front k t n o e = front-of s.entries t.entries (get_or s.ends n (length s.entries)) (level-within k n o) e
+
 module _ (s : SearchView) (assume : List Lit) where
   pub begun-none : AreBegun s assume 0 0
   begun-none = record { within = omega arith; before = λ j h. absurd (omega (arith, h)); behind = λ j o h. omega arith; asked = λ i e h. absurd (omega (arith, h)) }
-
-  -- the trail at the end of a level below the present one, and of the present one
-  pub asked-below : (n : ℕ) → n < length s.ends → Each (IsAsked assume) (at_level s n) → Each (IsAsked assume) (at_end s n)
-  asked-below n q a = subst (λ z. Each (IsAsked assume) (take z s.entries)) (get_or_default s.ends n (length s.entries) 0 q) a
-
-  pub asked-whole : (n : ℕ) → n ≡ length s.ends → Each (IsAsked assume) (at_level s n) → Each (IsAsked assume) s.entries
-  asked-whole n e a =
-      let y : get_or s.ends n (length s.entries) ≡ length s.entries = ap (λ z. get_or s.ends z (length s.entries)) e ∙ past s.ends (length s.entries) in
-      subst (Each (IsAsked assume)) (ap (λ z. take z s.entries) y ∙ take_all (length s.entries) s.entries (omega arith)) a
 
   module _ (k : IsSearch s) (levels place : ℕ) (b : AreBegun s assume levels place) where
     -- all levels begin before the end of the trail

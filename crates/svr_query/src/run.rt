@@ -182,6 +182,19 @@ fn asked_levels(search: &Search, assume: &[Lit]) -> usize
     levels
 }
 
+/// Takes back all levels but the first so many.
+fn keep_levels(search: &mut Search, levels: usize)
+    requires { levels ≤ length search.old.ends }
+    ensures vars { search.new.vars ≡ search.old.vars }
+    ensures clauses { search.new.clauses ≡ search.old.clauses }
+    ensures level { search.new.entries ≡ at_level search.old levels }
+    ensures shorter { length search.new.entries ≤ length search.old.entries }
+    ensures begins { take (length search.new.entries) search.old.entries ≡ search.new.entries }
+{
+    let _ = search.level();
+    search.backjump(levels);
+}
+
 /// Takes back the decisions from the first one on that was not assumed. What two questions assume in front stays set from one to the next.
 fn keep_asked(search: &mut Search, assume: &[Lit])
     ensures vars { search.new.vars ≡ search.old.vars }
@@ -189,7 +202,21 @@ fn keep_asked(search: &mut Search, assume: &[Lit])
     ensures asked { Each (IsAsked assume.now) search.new.entries }
 {
     let levels = asked_levels(search, assume);
-    search.backjump(levels);
+    keep_levels(search, levels);
+}
+
+/// The same within a question. Of the first `kept` entries those that are taken back go back into the order.
+fn restart_asked(search: &mut Search, assume: &[Lit], order: &mut Order<'_>, kept: usize)
+    ensures vars { search.new.vars ≡ search.old.vars }
+    ensures clauses { search.new.clauses ≡ search.old.clauses }
+    ensures asked { Each (IsAsked assume.now) search.new.entries }
+    ensures shorter { length search.new.entries ≤ length search.old.entries }
+    ensures begins { take (length search.new.entries) search.old.entries ≡ search.new.entries }
+{
+    let asked = asked_levels(search, assume);
+    let others = search.level().saturating_sub(asked);
+    order.put_first_back(search.entries(), kept, others);
+    keep_levels(search, asked);
 }
 
 /// Begins a level with this literal true.
@@ -266,8 +293,7 @@ pub fn run(
                 seen = still_seen(seen, kept);
                 made += 1;
                 if restarts.is_due() {
-                    order.put_first_back(search.entries(), kept, search.level());
-                    restart(search);
+                    restart_asked(search, assume, &mut order, kept);
                     seen = still_seen(seen, search.entries().len());
                 }
             }
