@@ -167,13 +167,12 @@ fn asked_levels(search: &Search, assume: &[Lit]) -> usize
 {
     // For the proof: what is known of every search.
     let _ = search.level();
+    let entries = search.entries();
     let mut levels = 0;
     let mut behind = 0;
-    for entry in search.entries() {
-        if entry.reason.is_some() {
-            continue;
-        }
-        let Some(place) = place_behind(assume, behind, entry.lit) else {
+    for end in search.ends() {
+        let decided = entries[*end].lit;
+        let Some(place) = place_behind(assume, behind, decided) else {
             return levels;
         };
         behind = place;

@@ -1,47 +1,37 @@
-use Rattle.std.proofs.Common.{◌≡◌, ◌<◌, ◌≤◌, ◌∙◌, None, List, true, false, length, get_or, sym, ap, subst}
-use Rattle.std.specs.Prelude.{IsSome, is_some}
+use Rattle.std.proofs.Common.{◌≡◌, ℕ, ◌+◌, ◌<◌, ◌∙◌, None, List, true, false, length, refl, get_or, sym, ap, subst}
 use Rattle.svr_chain.specs.Clauses.{has}
 use Rattle.svr_trail.specs.declared.Entry.{Entry}
-use Rattle.svr_query.proofs.Levels.{none_if, begun-forced, begun-decided, asked-here, asked-all}
+use Rattle.svr_query.proofs.Levels.{begun-none, begun-more, asked-front}
 use Rattle.svr_query.proofs.run.asked_levels.Goals as goal
 
-pub loop-entry-preserved-then-is_some : goal.loop-entry-preserved-then-is_some
-loop-entry-preserved-then-is_some c =
+pub loop-end-init : goal.loop-end-init
+loop-end-init c = (refl, begun-none c.args.search.now c.args.assume.now)
+
+pub bounds-entries-end : goal.bounds-entries-end
+bounds-entries-end c =
     let s = c.args.search.now in
-    let i = c.loop-entry.entry-index in
+    let i = c.loop-end.end-index in
+    let q : c.ends-end-items.result.now ≡ s.ends = c.ends-end-items.ensures in
+    let h : i < length s.ends = subst (λ (xs : List ℕ). i < length xs) q c.loop-end-test.true in
+    rw (c.entries-entries.ensures, q) (c.level.ensures.kept.short i h)
+
+pub loop-end-preserved : goal.loop-end-preserved
+loop-end-preserved c =
+    let s = c.args.search.now in
+    let assume = c.args.assume.now in
+    let i = c.loop-end.end-index in
+    let v = c.loop-end.invariant in
     let d : Entry = record { lit = record { var = 0; neg = false }; reason = None } in
-    let q : c.entries-entry-items.result.now ≡ s.entries = c.entries-entry-items.ensures in
-    let h : i < length s.entries = subst (λ (es : List Entry). i < length es) q c.loop-entry-test.true in
-    let f : IsSome (get_or s.entries i d).reason = ap (λ (es : List Entry). is_some (get_or es i d).reason) (sym q) ∙ (sym c.is_some.ensures ∙ c.if-is_some.true) in
-    begun-forced s c.args.assume.now c.level.ensures.kept c.loop-entry.levels i c.loop-entry.invariant d h f
+    let e : c.entries-entries.result.now ≡ s.entries = c.entries-entries.ensures in
+    let q : c.ends-end-items.result.now ≡ s.ends = c.ends-end-items.ensures in
+    let h : i < length s.ends = subst (λ (xs : List ℕ). i < length xs) q c.loop-end-test.true in
+    let a : has assume (get_or s.entries (get_or s.ends i 0) d).lit ≡ true
+    = ap (λ (es : List Entry). has assume (get_or es (get_or s.ends i 0) d).lit) (sym e)
+    ∙ (ap (λ (xs : List ℕ). has assume (get_or c.entries-entries.result.now (get_or xs i 0) d).lit) (sym q) ∙ c.in-Some.ensures) in
+    (ap (λ n. n + 1) v.0, begun-more s assume c.level.ensures.kept c.loop-end.levels v.1 d (rw v.0 h) (rw v.0 a))
 
 pub returns-in_default-clause-asked : goal.returns-in_default-clause-asked
-returns-in_default-clause-asked c =
-    let s = c.args.search.now in
-    let i = c.loop-entry.entry-index in
-    let d : Entry = record { lit = record { var = 0; neg = false }; reason = None } in
-    let q : c.entries-entry-items.result.now ≡ s.entries = c.entries-entry-items.ensures in
-    let h : i < length s.entries = subst (λ (es : List Entry). i < length es) q c.loop-entry-test.true in
-    let n : (get_or s.entries i d).reason ≡ None
-    = none_if (get_or s.entries i d).reason (ap (λ (es : List Entry). is_some (get_or es i d).reason) (sym q) ∙ (sym c.is_some.ensures ∙ c.if-is_some.false)) in
-    asked-here s c.args.assume.now c.level.ensures.kept c.loop-entry.levels i c.loop-entry.invariant d h n
-
-pub loop-entry-preserved : goal.loop-entry-preserved
-loop-entry-preserved c =
-    let s = c.args.search.now in
-    let i = c.loop-entry.entry-index in
-    let d : Entry = record { lit = record { var = 0; neg = false }; reason = None } in
-    let q : c.entries-entry-items.result.now ≡ s.entries = c.entries-entry-items.ensures in
-    let h : i < length s.entries = subst (λ (es : List Entry). i < length es) q c.loop-entry-test.true in
-    let n : (get_or s.entries i d).reason ≡ None
-    = none_if (get_or s.entries i d).reason (ap (λ (es : List Entry). is_some (get_or es i d).reason) (sym q) ∙ (sym c.is_some.ensures ∙ c.if-is_some.false)) in
-    let a : has c.args.assume.now (get_or s.entries i d).lit ≡ true = ap (λ (es : List Entry). has c.args.assume.now (get_or es i d).lit) (sym q) ∙ c.in-Some.ensures in
-    begun-decided s c.args.assume.now c.level.ensures.kept c.loop-entry.levels i c.loop-entry.invariant d h n a
+returns-in_default-clause-asked c = asked-front c.args.search.now c.args.assume.now c.level.ensures.kept c.loop-end.levels c.loop-end.invariant.1
 
 pub returns-clause-asked : goal.returns-clause-asked
-returns-clause-asked c =
-    let s = c.args.search.now in
-    let i = c.loop-entry.entry-index in
-    let q : c.entries-entry-items.result.now ≡ s.entries = c.entries-entry-items.ensures in
-    let o : length s.entries ≤ i = subst (λ (es : List Entry). length es ≤ i) q c.loop-entry-test.false in
-    asked-all s c.args.assume.now c.level.ensures.kept c.loop-entry.levels i c.loop-entry.invariant o
+returns-clause-asked c = asked-front c.args.search.now c.args.assume.now c.level.ensures.kept c.loop-end.levels c.loop-end.invariant.1
