@@ -17,7 +17,7 @@ use svr_edge::{MemSink, NullSink};
 use svr_elab_fault::ElabFault;
 use svr_elaborate::elaborate;
 use svr_lex::{LexFault, lex};
-use svr_parse::{ParseError, parse};
+use svr_parse::{ParseFault, parse};
 use svr_phase::Options;
 use svr_refusal::Refusal;
 use svr_run::{End, run_script};
@@ -51,11 +51,11 @@ fn lexical(fault: LexFault) -> Outcome {
     }
 }
 
-fn syntactic(fault: ParseError) -> Outcome {
+fn syntactic(fault: ParseFault) -> Outcome {
     match fault {
-        ParseError::Unexpected { .. } => Outcome::Refused(Refusal::Unexpected.number()),
-        ParseError::TooDeep { .. } => Outcome::Refused(Refusal::TooDeep.number()),
-        ParseError::NoMemory => Outcome::Stopped,
+        ParseFault::Unexpected { .. } => Outcome::Refused(Refusal::Unexpected.number()),
+        ParseFault::TooDeep { .. } => Outcome::Refused(Refusal::TooDeep.number()),
+        ParseFault::NoMemory => Outcome::Stopped,
     }
 }
 

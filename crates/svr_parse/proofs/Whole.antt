@@ -14,8 +14,8 @@ use Rattle.svr_reader.proofs.Tokens.{length-numbered}
 use Rattle.svr_reader.proofs.Fronts.{one_answer}
 use Rattle.svr_reader.proofs.Places.{exact}
 use Rattle.svr_parse.specs.ScriptRules.{script}
-use Rattle.svr_parse.specs.declared.fault.ParseError.{ParseError}
-use Rattle.svr_parse.specs.declared.fault.ParseError.TheVariants as error
+use Rattle.svr_parse.specs.declared.fault.ParseFault.{ParseFault}
+use Rattle.svr_parse.specs.declared.fault.ParseFault.TheVariants as error
 use Rattle.svr_parse.specs.Parse.{IsTreeOf, IsUnexpectedOf, IsTooDeepOf, IsPlaceOf}
 use Rattle.svr_parse.proofs.Layer.{script_parser}
 
@@ -110,7 +110,7 @@ module _ (text : List ℕ) (ts : List Token) (few : length ts < 2 ^ 32) (ls : Li
     pub tree_only : (t : ScriptTree) (j : List Tok) → whole (script cap HEIGHT_LIMIT) i ≡ Ok (t, j) → (u : ScriptTree) → IsTreeOf text ts u → t ≡ u
     tree_only t j h u d = sym (read_once i few_tokens t j h u (reading_of u d))
 
-    pub tree_no_fault : (t : ScriptTree) (j : List Tok) → whole (script cap HEIGHT_LIMIT) i ≡ Ok (t, j) → (f : ParseError) → IsPlaceOf text ts f → ⊥
+    pub tree_no_fault : (t : ScriptTree) (j : List Tok) → whole (script cap HEIGHT_LIMIT) i ≡ Ok (t, j) → (f : ParseFault) → IsPlaceOf text ts f → ⊥
     tree_no_fault t j h (error.Unexpected n) d = (one_answer IsReading HEIGHT_LIMIT i).reading_unexpected t n (tree_read i few_tokens t j h) (unexpected_here n d)
     tree_no_fault t j h (error.TooDeep n) d = (one_answer IsReading HEIGHT_LIMIT i).reading_deep t n (tree_read i few_tokens t j h) (deep_here n d)
     tree_no_fault t j h error.NoMemory d = d
@@ -121,12 +121,12 @@ module _ (text : List ℕ) (ts : List Token) (few : length ts < 2 ^ 32) (ls : Li
     pub deep_no_tree : (k : ℕ) → whole (script cap HEIGHT_LIMIT) i ≡ Err (TooDeep k) → (u : ScriptTree) → IsTreeOf text ts u → ⊥
     deep_no_tree k h u d = let e = deep_at i few_tokens k h in (one_answer IsReading HEIGHT_LIMIT i).reading_deep u e.0 (reading_of u d) e.2
 
-    pub unexpected_only : (k : ℕ) → whole (script cap HEIGHT_LIMIT) i ≡ Err (Unexpected k) → (f : ParseError) → IsPlaceOf text ts f → error.Unexpected (length ts - k) ≡ f
+    pub unexpected_only : (k : ℕ) → whole (script cap HEIGHT_LIMIT) i ≡ Err (Unexpected k) → (f : ParseFault) → IsPlaceOf text ts f → error.Unexpected (length ts - k) ≡ f
     unexpected_only k h (error.Unexpected n) d = let e = unexpected_at i few_tokens k h in ap error.Unexpected (sym (before e.0 k e.1) ∙ (one_answer IsReading HEIGHT_LIMIT i).unexpected_once e.0 n e.2 (unexpected_here n d))
     unexpected_only k h (error.TooDeep n) d = let e = unexpected_at i few_tokens k h in absurd ((one_answer IsReading HEIGHT_LIMIT i).unexpected_deep e.0 n e.2 (deep_here n d))
     unexpected_only k h error.NoMemory d = absurd d
 
-    pub deep_only : (k : ℕ) → whole (script cap HEIGHT_LIMIT) i ≡ Err (TooDeep k) → (f : ParseError) → IsPlaceOf text ts f → error.TooDeep (length ts - k) ≡ f
+    pub deep_only : (k : ℕ) → whole (script cap HEIGHT_LIMIT) i ≡ Err (TooDeep k) → (f : ParseFault) → IsPlaceOf text ts f → error.TooDeep (length ts - k) ≡ f
     deep_only k h (error.Unexpected n) d = let e = deep_at i few_tokens k h in absurd ((one_answer IsReading HEIGHT_LIMIT i).unexpected_deep n e.0 (unexpected_here n d) e.2)
     deep_only k h (error.TooDeep n) d = let e = deep_at i few_tokens k h in ap error.TooDeep (sym (before e.0 k e.1) ∙ (one_answer IsReading HEIGHT_LIMIT i).deep_once e.0 n e.2 (deep_here n d))
     deep_only k h error.NoMemory d = absurd d

@@ -8,8 +8,8 @@ use Rattle.svr_tree.specs.Reading.{IsReading}
 use Rattle.svr_tree.specs.Tokens.{numbered}
 use Rattle.svr_reader.specs.Spelled.{AreSpelled}
 use Rattle.svr_reader.specs.Fronts.{IsUnexpected, IsTooDeep}
-use Rattle.svr_parse.specs.declared.fault.ParseError.{ParseError}
-use Rattle.svr_parse.specs.declared.fault.ParseError.TheVariants as e
+use Rattle.svr_parse.specs.declared.fault.ParseFault.{ParseFault}
+use Rattle.svr_parse.specs.declared.fault.ParseFault.TheVariants as e
 
 -- the tree reads the tokens of the text, and is the one within the limit that does
 pub record IsTreeOf (text : List ℕ) (tokens : List Token) (tree : ScriptTree) : Type 0 where
@@ -31,13 +31,13 @@ pub record IsTooDeepOf (text : List ℕ) (tokens : List Token) (token : ℕ) : T
   pub place : IsTooDeep IsReading HEIGHT_LIMIT (numbered 0 lexemes) token
 
 -- why the tokens of the text have no tree
-abbrev pub IsFaultOf : List ℕ → List Token → ParseError → Type 0
+abbrev pub IsFaultOf : List ℕ → List Token → ParseFault → Type 0
 IsFaultOf text tokens (e.Unexpected token) = IsUnexpectedOf text tokens token
 IsFaultOf text tokens (e.TooDeep token) = IsTooDeepOf text tokens token
 IsFaultOf text tokens e.NoMemory = Unit {0}
 
 -- the same of a fault of the tokens alone
-abbrev pub IsPlaceOf : List ℕ → List Token → ParseError → Type 0
+abbrev pub IsPlaceOf : List ℕ → List Token → ParseFault → Type 0
 IsPlaceOf text tokens (e.Unexpected token) = IsUnexpectedOf text tokens token
 IsPlaceOf text tokens (e.TooDeep token) = IsTooDeepOf text tokens token
 IsPlaceOf text tokens e.NoMemory = ⊥

@@ -9,6 +9,6 @@ mod reader;
 mod script;
 mod tops;
 
-pub use fault::ParseError;
+pub use fault::ParseFault;
 pub use laws::{tokens_have_one_answer, tokens_have_one_tree};
 pub use parser::parse;

@@ -4,7 +4,7 @@ use crate::wanted::Wanted;
 use std::alloc::Global;
 use svr_lex::lex;
 use svr_operator::{BinOp, Fold};
-use svr_parse::{ParseError, parse};
+use svr_parse::{ParseFault, parse};
 use svr_token::Token;
 use svr_tree::{
     CallForm, ClassDecl, ClassItem, DataType, Dimension, Dist, Expr, Item, IteratorArgument,
@@ -41,7 +41,7 @@ impl Shown for Script {
 
 /// Whether just the wanted text tells what the look sees of a script. The script is let go here, whatever it is, so that no other function has to.
 fn is_shown<T: Shown + Drop>(
-    found: Result<T, ParseError>,
+    found: Result<T, ParseFault>,
     look: Look,
     wanted: &'static [u8],
 ) -> bool {
@@ -52,17 +52,17 @@ fn is_shown<T: Shown + Drop>(
 }
 
 // The script of a text, or its fault.
-fn read(alloc: Global, text: &[u8]) -> Result<Script, ParseError> {
+fn read(alloc: Global, text: &[u8]) -> Result<Script, ParseFault> {
     if text.len() > 4_194_304 {
-        return Err(ParseError::NoMemory);
+        return Err(ParseFault::NoMemory);
     }
     match lex(alloc, text) {
         Ok(tokens) => parse(alloc, text, &tokens),
-        Err(_) => Err(ParseError::NoMemory),
+        Err(_) => Err(ParseFault::NoMemory),
     }
 }
 
-fn fault(alloc: Global, text: &[u8]) -> Option<ParseError> {
+fn fault(alloc: Global, text: &[u8]) -> Option<ParseFault> {
     read(alloc, text).err()
 }
 
@@ -451,7 +451,7 @@ fn ends_early(alloc: Global, text: &[u8], tokens: &[Token]) -> bool {
     let mut count = 0u32;
     for token in tokens {
         let early = match text.get(..token.start as usize) {
-            Some(front) => fault(alloc, front) == Some(ParseError::Unexpected { token: count }),
+            Some(front) => fault(alloc, front) == Some(ParseFault::Unexpected { token: count }),
             None => false,
         };
         if !early {
@@ -520,7 +520,7 @@ const FAULTS: &[(&[u8], u32)] = &[
 #[test]
 fn faults(rt: HostRuntime) {
     for (text, token) in FAULTS {
-        assert!(rt; fault(rt.alloc(), text) == Some(ParseError::Unexpected { token: *token }));
+        assert!(rt; fault(rt.alloc(), text) == Some(ParseFault::Unexpected { token: *token }));
     }
 }
 
@@ -549,5 +549,5 @@ fn nested(alloc: Global, pairs: usize) -> Vec<u8> {
 fn heights(rt: HostRuntime) {
     let alloc = rt.alloc();
     assert!(rt; fault(alloc, &nested(alloc, 125)) == None);
-    assert!(rt; fault(alloc, &nested(alloc, 126)) == Some(ParseError::TooDeep { token: 137 }));
+    assert!(rt; fault(alloc, &nested(alloc, 126)) == Some(ParseFault::TooDeep { token: 137 }));
 }

@@ -10,7 +10,7 @@ ghost use Rattle.svr_status.specs.Lines as spec;
 
 use std::alloc::{AllocError, Global};
 use svr_lex::LexFault;
-use svr_parse::ParseError;
+use svr_parse::ParseFault;
 use svr_refusal::{Refusal, place_of, token_start};
 use svr_status::refused_at;
 use svr_token::Token;
@@ -48,7 +48,7 @@ pub fn syntactic(
     alloc: Global,
     text: &[u8],
     tokens: &[Token],
-    fault: ParseError,
+    fault: ParseFault,
 ) -> Result<Vec<u8>, AllocError>
     requires small { length text.now ≤ TEXT_LIMIT }
     requires tokens { IsTokenized text.now tokens.now }
@@ -56,7 +56,7 @@ pub fn syntactic(
     ensures { IfOk result (λ v. IsRefused text.now v.items) }
 {
     match fault {
-        ParseError::Unexpected { token } => {
+        ParseFault::Unexpected { token } => {
             at_byte(
                 alloc,
                 text,
@@ -64,12 +64,12 @@ pub fn syntactic(
                 Refusal::Unexpected,
             )
         }
-        ParseError::TooDeep { token } => at_byte(
+        ParseFault::TooDeep { token } => at_byte(
             alloc,
             text,
             token_start(text, tokens, token),
             Refusal::TooDeep,
         ),
-        ParseError::NoMemory => Err(AllocError),
+        ParseFault::NoMemory => Err(AllocError),
     }
 }

@@ -1,7 +1,7 @@
 use Rattle.std.proofs.Common.{◌∙◌, ap, subst}
 use Rattle.std.proofs.lemmas.Result.{IfOk-weaker}
 use Rattle.svr_parse.specs.Parse.{IsFaultOf}
-use Rattle.svr_parse.specs.declared.fault.ParseError.TheVariants.{Unexpected, TooDeep}
+use Rattle.svr_parse.specs.declared.fault.ParseFault.TheVariants.{Unexpected, TooDeep}
 use Rattle.svr_refusal.specs.Place.{place_of}
 use Rattle.svr_refusal.specs.declared.refusal.Refusal.TheVariants as refusal
 use Rattle.svr_status.specs.Lines.{refused_at}
