@@ -12,7 +12,6 @@ ghost use Rattle.svr_elab_part.specs.Fits.{MembersFit};
 ghost use Rattle.svr_elab_target.specs.Fits.{BlocksFit};
 ghost use Rattle.svr_elab_type.specs.Types.{declaring};
 ghost use Rattle.svr_elab_type.specs.Seen.{AreEmpty, globals_part};
-ghost use Rattle.svr_elab_class.specs.Classes.{label_faults};
 ghost use Rattle.svr_elab_tops.specs.InOrder.{TypesFit, ClassesFit};
 ghost use Rattle.svr_elab_random.specs.Random.{classes_with};
 ghost use Rattle.svr_elab_block.specs.Blocks as blocks_spec;
@@ -33,15 +32,15 @@ use indexmap::{IndexMap, IndexSet};
 use sqlite_items::Items;
 use std::alloc::Global;
 use svr_elab_block::{BodiesPart, class_bodies};
+use svr_elab_class::label_fault;
 use svr_elab_expr::beside;
-use svr_elab_fault::{Fault, earlier, when};
+use svr_elab_fault::{Fault, earlier};
 use svr_elab_names::{ClassNames, Global as Named, NameSpace, VarStand};
 use svr_elab_random::{Home, with_random};
 use svr_elab_stmt::StmtsPart;
 use svr_elab_tops::types_and_classes;
 use svr_elab_type::{Globals, NoNames, declaring};
 use svr_elab_unit::{VarsPart, listed_in_all, run, stmt_space, var_decls};
-use svr_refusal::Refusal;
 use svr_token::Names;
 use svr_tree::{Script, UnitDecl};
 use svr_typed::{Design, NoMemory};
@@ -233,20 +232,6 @@ fn walk_among<'a>(
     let inside = whole_space(names, globals, classes, none, &vars.vars);
     let all = walk(alloc, script, vars.stands.as_slice(), &inside)?;
     Ok(all)
-}
-
-/// A label at the end repeats the name.
-fn label_fault(names: &Names<'_>, name: u32, label: Option<u32>) -> Option<Fault>
-    ensures { result ≡ label_faults first_one (names_of names.now) name label }
-{
-    match label {
-        None => None,
-        Some(label) => when(
-            names.name(label) != names.name(name),
-            label,
-            Refusal::UnknownName,
-        ),
-    }
 }
 
 /// The first of the refusals of all parts.

@@ -84,7 +84,8 @@ fn base_fault(
     }
 }
 
-fn label_fault(names: &Names<'_>, name: u32, label: Option<u32>) -> Option<Fault>
+/// A label at the end repeats the name.
+pub fn label_fault(names: &Names<'_>, name: u32, label: Option<u32>) -> Option<Fault>
     ensures { result ≡ spec.label_faults first_one (names_of names.now) name label }
 {
     match label {

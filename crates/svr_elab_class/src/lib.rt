@@ -9,5 +9,5 @@ mod head;
 mod later;
 mod property;
 
-pub use class::class_decl;
+pub use class::{class_decl, label_fault};
 pub use head::{ClassHead, ClassPart};
