@@ -3,7 +3,7 @@ use Rattle.std.specs.Prelude.{◌≡◌, ◌≤◌, ◌<◌, ◌+◌, ◌^◌, �
 use Rattle.std.specs.List.{list_any}
 use Rattle.svr_operator.specs.declared.Rand.{Rand}
 use Rattle.svr_operator.specs.declared.Rand.TheVariants as rand
-use Rattle.svr_limits.specs.declared.limit.TheConstants.{PROPERTY_LIMIT, STATEMENT_LIMIT, VARIABLE_LIMIT}
+use Rattle.svr_limits.specs.declared.limit.TheConstants.{ARRAY_LIMIT, PROPERTY_LIMIT, STATEMENT_LIMIT, VARIABLE_LIMIT}
 use Rattle.svr_typed.specs.declared.Prop.{Prop}
 use Rattle.svr_typed.specs.declared.TVar.{TVar}
 use Rattle.svr_typed.specs.declared.VarKind.{VarKind}
@@ -97,7 +97,7 @@ pub record IsClass (d : DesignTerm) (k : ℕ) (c : ClassTerm) : Type 0 where
   pub blocks : Every (BlockStands (flat_class_of d.classes k).props) c.blocks
   pub can : EachFrom (CanBeRandom d k) 0 (flat_class_of d.classes k).props
   pub few : length (flat_class_of d.classes k).props ≤ PROPERTY_LIMIT
-  pub few_arrays : arrays_in (flat_class_of d.classes k).props ≤ 32
+  pub few_arrays : arrays_in (flat_class_of d.classes k).props ≤ ARRAY_LIMIT
   pub few_blocks : length (flat_class_of d.classes k).blocks < 2 ^ 32
   pub differ : NamesDiffer (map (λ (p : Prop). p.name) (flat_class_of d.classes k).props)
 

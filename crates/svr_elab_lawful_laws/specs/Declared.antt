@@ -1,6 +1,6 @@
 -- What holds of declarations in which nothing is refused (IEEE 1800-2017, clauses 6, 7 and 8).
 use Rattle.std.specs.Prelude.{◌≡◌, ◌≤◌, ◌<◌, ◌^◌, ◌+◌, ℕ, List, [], ◌∷◌, ◌++◌, length, map, Option, Some, None, ⊤}
-use Rattle.svr_limits.specs.declared.limit.TheConstants.{PROPERTY_LIMIT}
+use Rattle.svr_limits.specs.declared.limit.TheConstants.{ARRAY_LIMIT, PROPERTY_LIMIT}
 use Rattle.svr_typed.specs.declared.EnumType.{EnumType}
 use Rattle.svr_design.specs.Types.{IsKind, IsProp, NumbersFrom, NamesDiffer}
 use Rattle.svr_design.specs.Lawful.{BaseIsBefore}
@@ -58,7 +58,7 @@ pub record ClassIs (es : List EnumType) (cs : List ClassName) (k : ℕ) (c : Cla
   pub places : PlacedFrom 0 c.props
   pub differ : NamesDiffer (map (λ (p : PropName). p.name) c.props)
   pub few : length c.props ≤ PROPERTY_LIMIT
-  pub few_arrays : arrays_in c.props ≤ 32
+  pub few_arrays : arrays_in c.props ≤ ARRAY_LIMIT
 
 -- a script variable: a number of a known type, or an object of one of `cs` classes
 abbrev pub StandIs : List EnumType → ℕ → VarStand → Type 0

@@ -5,6 +5,7 @@ use Rattle.std.specs.Option.{option_to_list}
 use Rattle.std.proofs.lemmas.Bool.{eqb-true, eqb-false}
 use Rattle.rand_pcg.specs.Lcg.{Lcg}
 use Rattle.svr_draw.specs.Words.{word_of, after}
+use Rattle.svr_seq.specs.declared.limits.TheConstants.{UNIT_LIMIT}
 use Rattle.svr_seq.specs.declared.line.SeqEnd.{SeqEnd}
 use Rattle.svr_seq.specs.declared.line.SeqEnd.TheVariants.{Names, Limit}
 use Rattle.svr_seq.specs.SeqTerm.{ActTerm, print, choose, BranchTerms, PartTerm, SeqTerm}
@@ -83,7 +84,7 @@ module _ (s : SeqTerm) (sound : IsSound s) where
 
   line_derived : (g : Lcg) (ending : List ℕ) → (line_of s g).end ≡ Names ending → Derives s s.start ending
   line_derived g ending e =
-      let h = names_derived 100000 (expansion s.start ∷ []) [] g ending (sound.starts, tt) e in
+      let h = names_derived UNIT_LIMIT (expansion s.start ∷ []) [] g ending (sound.starts, tt) e in
       subst (Derives s s.start) (sym h.is) (joined_nothing (Derives s s.start) h.more h.derived)
 
   pub ends_derived : (g : Lcg) (end : SeqEnd) → end ≡ (line_of s g).end → IsDerived s end

@@ -4,6 +4,7 @@ use Rattle.std.specs.Option.{option_to_list}
 use Rattle.std.specs.List.{flat_map}
 use Rattle.rand_pcg.specs.Lcg.{Lcg}
 use Rattle.svr_draw.specs.Words.{word_of, after}
+use Rattle.svr_seq.specs.declared.limits.TheConstants.{UNIT_LIMIT}
 use Rattle.svr_seq.specs.declared.line.SeqEnd.{SeqEnd}
 use Rattle.svr_seq.specs.declared.line.SeqEnd.TheVariants.{Names, Limit}
 use Rattle.svr_seq.specs.SeqTerm.{ActTerm, print, choose, BranchTerms, no_branches, more_branches, PartTerm, expand, block, RuleTerm, SeqTerm}
@@ -97,6 +98,6 @@ module _ (s : SeqTerm) where
   abbrev pub line_within : ℕ → Lcg → Line
   line_within units g = line_from units (expansion s.start ∷ []) [] g
 
-  -- a line has 100,000 units
+  -- a line has so many units as its limit says
   abbrev pub line_of : Lcg → Line
-  line_of g = line_within 100000 g
+  line_of g = line_within UNIT_LIMIT g

@@ -13,6 +13,6 @@ mod weights;
 
 pub use examples::{choices_are_as_worked_out, lines_are_as_worked_out};
 pub use laws::lines_are_derived;
-pub use limits::{CHOICE_LIMIT, REPEAT_LIMIT, SEQUENCE_LIMIT};
+pub use limits::{CHOICE_LIMIT, REPEAT_LIMIT, SEQUENCE_LIMIT, UNIT_LIMIT};
 pub use line::{SeqEnd, derive};
 pub use tree::{Act, Branch, Part, Production, Rule, Seq};

@@ -9,6 +9,7 @@ ghost use Rattle.svr_seq.specs.Line as spec;
 ghost use Rattle.svr_seq.specs.Derives.{IsDerived};
 ghost use Rattle.svr_seq.specs.Stack.{task_of, tasks_on};
 
+use crate::limits::UNIT_LIMIT;
 use crate::stack::{Job, Work, next_job};
 use crate::tree::{Act, Branch, Rule, Seq};
 use crate::weights::{drawn_branch, drawn_rule};
@@ -16,9 +17,6 @@ use sqlite_items::Items;
 use std::alloc::Global;
 use svr_draw::Draws;
 use svr_typed::NoMemory;
-
-/// How many units a line has. One unit is a production expanded, a `randcase` entered or a name printed.
-const UNITS: u32 = 100_000;
 
 /// How a line ends.
 #[derive(Drop)]
@@ -115,5 +113,5 @@ pub fn derive(alloc: Global, seq: &Seq, draws: &mut Draws) -> Result<SeqEnd, NoM
     ensures words { OnOk result (draws.new ≡ (spec.line_of (seq_term seq.now) draws.old).words) }
     ensures derived { IfOk result (λ end. IsSound (seq_term seq.now) → IsDerived (seq_term seq.now) end) }
 {
-    line_within(alloc, UNITS, seq, draws)
+    line_within(alloc, UNIT_LIMIT, seq, draws)
 }
