@@ -4,19 +4,23 @@ use Rattle.std.specs.List.{list_any}
 use Rattle.svr_token.specs.Lexemes.{number_of}
 use Rattle.svr_token.specs.declared.lexeme.Lexeme.{Lexeme}
 use Rattle.svr_token.specs.declared.lexeme.Lexeme.TheVariants as l
+use Rattle.svr_refusal.specs.declared.refusal.Refusal.{Refusal}
+use Rattle.svr_refusal.specs.declared.refusal.Refusal.TheVariants as refusal
+use Rattle.svr_refusal.specs.Numbers as numbers
 use Rattle.svr_cover_text.specs.declared.text.NumText.{NumText}
 use Rattle.svr_cover_text.specs.declared.text.RangeText.{RangeText}
 use Rattle.svr_cover_text.specs.declared.text.BinsText.{BinsText}
 use Rattle.svr_cover_checked.specs.declared.fault.CoverFault.{CoverFault}
 use Rattle.svr_cover_checked.specs.declared.fault.CoverFault.TheVariants as e
+use Rattle.svr_cover_checked.specs.declared.limits.TheConstants.{MOST_BINS}
 
 -- what the token of a number spells
 abbrev pub Spelling : Type 0
 Spelling = ℕ → List ℕ
 
--- nothing, or a refusal of this number at a token
-abbrev pub unless : Bool → ℕ → ℕ → List CoverFault
-unless fine number token = if fine then [] else e.Refused number token ∷ []
+-- nothing, or a refusal at a token
+abbrev pub unless : Bool → Refusal → ℕ → List CoverFault
+unless fine why token = if fine then [] else e.Refused (numbers.number_of why) token ∷ []
 
 abbrev pub first_of : List CoverFault → Option CoverFault
 first_of [] = None
@@ -62,15 +66,15 @@ overlap text r q = not (is_empty text q) && (nat_le (low_of text r) (high_of tex
 abbrev pub fits : Spelling → Bool → List RangeText → RangeText → Bool
 fits text each earlier r = not (is_empty text r) && not (each && list_any (overlap text r) earlier)
 
--- 35: a range without numbers, or with `[]` one that has a number of an earlier range. `all` are the ranges of the `bins`, and i stand before
+-- a range without numbers, or with `[]` one that has a number of an earlier range. `all` are the ranges of the `bins`, and i stand before
 abbrev pub ranges_refusals : Spelling → Bool → List RangeText → ℕ → List RangeText → List CoverFault
 ranges_refusals text each all i [] = []
-ranges_refusals text each all i (r ∷ rs) = unless (fits text each (take i all) r) 35 r.at ++ ranges_refusals text each all (suc i) rs
+ranges_refusals text each all i (r ∷ rs) = unless (fits text each (take i all) r) refusal.BadBins r.at ++ ranges_refusals text each all (suc i) rs
 
 -- how many numbers ranges have, up to one more than there may be bins
 abbrev pub sizes : Spelling → ℕ → List RangeText → ℕ
 sizes text sum [] = sum
-sizes text sum (r ∷ rs) = sizes text (min (sum + size_of text r) 1025) rs
+sizes text sum (r ∷ rs) = sizes text (min (sum + size_of text r) (MOST_BINS + 1)) rs
 
 -- how many bins a `bins` is: one, or with `[]` one a number that is written
 abbrev pub bins_count : Spelling → BinsText → ℕ

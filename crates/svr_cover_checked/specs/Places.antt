@@ -1,6 +1,7 @@
 -- Names of a text: where each stands first among those of its kind
 use Rattle.std.specs.Prelude.{ℕ, suc, Bool, false, ◌==◌, nat_eq, List, [], ◌∷◌, ◌++◌, Option, None, Some, is_some, if◌then◌else◌}
 use Rattle.std.specs.Cmp.Lexicographic.{pointwise}
+use Rattle.svr_refusal.specs.declared.refusal.Refusal.TheVariants as refusal
 use Rattle.svr_cover_checked.specs.declared.fault.CoverFault.{CoverFault}
 use Rattle.svr_cover_checked.specs.Numbers.{Spelling, unless}
 
@@ -36,6 +37,6 @@ abbrev pub is_at : Option ℕ → ℕ → Bool
 is_at None n = false
 is_at (Some k) n = k == n
 
--- 33: the name at a place has stood before
+-- the name at a place has stood before
 abbrev pub second : Spelling → Finder → ℕ → ℕ → List CoverFault
-second text find at name = unless (is_at (find (text name)) at) 33 name
+second text find at name = unless (is_at (find (text name)) at) refusal.DoubleCover name

@@ -3,6 +3,7 @@ use Rattle.std.specs.Prelude.{◌≡◌, ℕ, suc, ◌+◌, ◌*◌, ◌-◌, �
 use Rattle.svr_typed.specs.declared.class.Prop.{Prop}
 use Rattle.svr_typed.specs.declared.class.TClass.{TClass}
 use Rattle.svr_typed.specs.declared.class.FlatClass.{FlatClass}
+use Rattle.svr_refusal.specs.declared.refusal.Refusal.TheVariants as refusal
 use Rattle.svr_cover_text.specs.declared.text.BinsText.{BinsText}
 use Rattle.svr_cover_text.specs.declared.text.PartText.{PartText}
 use Rattle.svr_cover_text.specs.declared.text.PartText.TheVariants as t
@@ -32,11 +33,11 @@ abbrev pub all_count : Spelling → ℕ → List BinsText → ℕ
 all_count text count [] = count
 all_count text count (b ∷ bs) = all_count text (count_behind text count b) bs
 
--- 33; 34: with these there are too many bins; 35
+-- its name has stood before; with these there are too many bins; its ranges
 abbrev pub one_refusals : Spelling → Finder → ℕ → ℕ → BinsText → List CoverFault
 one_refusals text find i count b =
     second text find i b.name
-    ++ (unless (nat_le (count + bins_count text b) MOST_BINS) 34 b.name
+    ++ (unless (nat_le (count + bins_count text b) MOST_BINS) refusal.TooManyBins b.name
     ++ ranges_refusals text b.each b.ranges 0 b.ranges)
 
 -- `count` is how many bins there are before the i-th
@@ -89,25 +90,25 @@ abbrev pub with_tuples : Option ℕ → ℕ → ℕ
 with_tuples None total = total
 with_tuples (Some n) total = min (total + n) (2 ^ 64 - 1)
 
--- 32: no earlier point has the name
+-- no earlier point has the name
 abbrev pub points_refusals : Group → ℕ → List ℕ → List CoverFault
 points_refusals g i [] = []
-points_refusals g i (p ∷ ps) = unless (is_some (point_bins g i p)) 32 p ++ points_refusals g i ps
+points_refusals g i (p ∷ ps) = unless (is_some (point_bins g i p)) refusal.UnknownCover p ++ points_refusals g i ps
 
--- 33; 34: it is one part too many
+-- its name has stood before; it is one part too many
 abbrev pub head_refusals : Group → ℕ → ℕ → List CoverFault
-head_refusals g i name = second g.text g.find i name ++ unless (nat_lt i MOST_PARTS) 34 name
+head_refusals g i name = second g.text g.find i name ++ unless (nat_lt i MOST_PARTS) refusal.TooManyBins name
 
--- 32: it is not the formal argument, or no scalar property of the class
+-- it is not the formal argument, or no scalar property of the class
 abbrev pub names_refusals : Group → ℕ → ℕ → List CoverFault
-names_refusals g formal prop = unless (is_same (g.text formal) (g.text g.formal)) 32 formal ++ unless (is_some (prop_from 0 g.props (g.text prop))) 32 prop
+names_refusals g formal prop = unless (is_same (g.text formal) (g.text g.formal)) refusal.UnknownCover formal ++ unless (is_some (prop_from 0 g.props (g.text prop))) refusal.UnknownCover prop
 
 abbrev pub point_refusals : Group → ℕ → ℕ → ℕ → ℕ → List BinsText → List CoverFault
 point_refusals g i name formal prop bins = head_refusals g i name ++ (names_refusals g formal prop ++ all_bins_refusals g.text bins)
 
 -- `total` is how many tuples all crosses before have
 abbrev pub cross_refusals : Group → ℕ → ℕ → ℕ → List ℕ → List CoverFault
-cross_refusals g i total name points = head_refusals g i name ++ (unless (tuples_fit (tuples_from g i 1 points) total) 34 name ++ points_refusals g i points)
+cross_refusals g i total name points = head_refusals g i name ++ (unless (tuples_fit (tuples_from g i 1 points) total) refusal.TooManyBins name ++ points_refusals g i points)
 
 abbrev pub part_refusals : Group → ℕ → ℕ → PartText → List CoverFault
 part_refusals g i total (t.Point name formal prop bins) = point_refusals g i name formal prop bins
@@ -147,12 +148,12 @@ group_of text classes flats g = record {
   counts = map (part_count text) g.parts;
 }
 
--- 33; 34: it is one group too many; 32: there is no such class
+-- its name has stood before; it is one group too many; there is no such class
 abbrev pub group_refusals : Spelling → List TClass → List FlatClass → Finder → ℕ → ℕ → GroupText → List CoverFault
 group_refusals text classes flats find i total g =
     second text find i g.name
-    ++ (unless (nat_lt i MOST_GROUPS) 34 g.name
-    ++ (unless (is_some (class_from 0 classes (text g.class))) 32 g.class
+    ++ (unless (nat_lt i MOST_GROUPS) refusal.TooManyBins g.name
+    ++ (unless (is_some (class_from 0 classes (text g.class))) refusal.UnknownCover g.class
     ++ parts_refusals (group_of text classes flats g) 0 total g.parts))
 
 abbrev pub groups_refusals : Spelling → List TClass → List FlatClass → Finder → ℕ → ℕ → List GroupText → List CoverFault

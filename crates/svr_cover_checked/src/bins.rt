@@ -1,7 +1,8 @@
 // The bins of a point (IEEE 1800-2017, 19.5).
 
-ghost use Rattle.std.specs.Prelude.{◌≡◌, ◌≤◌, [], map, Some, MatchResult, IfOk, IfErr};
+ghost use Rattle.std.specs.Prelude.{◌≡◌, ◌≤◌, ◌+◌, [], map, Some, MatchResult, IfOk, IfErr};
 ghost use Rattle.svr_token.specs.Names.{names_of};
+ghost use Rattle.svr_cover_checked.specs.declared.limits.TheConstants.{MOST_BINS};
 ghost use Rattle.svr_cover_checked.specs.Numbers.{first_of};
 ghost use Rattle.svr_cover_checked.specs.Refusals as spec;
 ghost use Rattle.svr_cover_checked.specs.Tables.{found_in};
@@ -13,6 +14,7 @@ use crate::ranges::{bins_count, check_ranges};
 use sqlite_items::Items;
 use std::alloc::Global;
 use svr_cover_text::BinsText;
+use svr_refusal::Refusal;
 use svr_token::Names;
 
 /// The names of `bins`.
@@ -32,7 +34,7 @@ fn bins_names(alloc: Global, bins: &[BinsText]) -> Result<Items<u32>, CoverFault
 /// How many bins `bins` are, up to one more than there may be.
 pub(crate) fn all_count(names: Names<'_>, bins: &[BinsText]) -> u64
     ensures is { result ≡ spec.all_count (names_of names.entry) 0 bins.now }
-    ensures near { result ≤ 1025 }
+    ensures near { result ≤ MOST_BINS + 1 }
 {
     let mut count: u64 = 0;
     let mut left = bins;
@@ -43,20 +45,20 @@ pub(crate) fn all_count(names: Names<'_>, bins: &[BinsText]) -> u64
     count
 }
 
-/// Errors: 33 and 34 at the name of a `bins`, 35 at one of its ranges.
+/// Errors: `DoubleCover` and `TooManyBins` at the name of a `bins`, `BadBins` at one of its ranges.
 fn check_one(
     places: &Places<'_, '_>,
     at: usize,
     count: u64,
     one: &BinsText,
 ) -> Result<(), CoverFault>
-    requires { count ≤ 1025 }
+    requires { count ≤ MOST_BINS + 1 }
     ensures { let rs = spec.one_refusals (names_of places.now.names) (found_in places.now.table.now.entries) at count one.now in MatchResult result (λ _. rs ≡ []) (λ e. first_of rs ≡ Some e) }
 {
     places.first(at, one.name)?;
     unless(
         count + bins_count(places.names, one) <= MOST_BINS,
-        34,
+        Refusal::TooManyBins,
         one.name,
     )?;
     check_ranges(places.names, one.each, one.ranges.as_slice())

@@ -5,13 +5,14 @@ ghost use Rattle.svr_cover_checked.specs.Numbers as spec;
 
 use sqlite_items::Items;
 use std::alloc::AllocError;
+use svr_refusal::Refusal;
 
 /// Why cover groups are refused.
 #[derive(Clone, Copy)]
 pub enum CoverFault {
     /// A refusal by its number, and the token where it stands:
-    /// 32, a name that is no class, no scalar property of it, not the formal argument, or no earlier point; 33, a name that an earlier one of its kind has;
-    /// 34, the name of what passes a limit; 35, a range without numbers, or with a number that its `bins` has twice.
+    /// a name that is no class, no scalar property of it, not the formal argument, or no earlier point (`UnknownCover`); a name that an earlier one of its kind has (`DoubleCover`);
+    /// the name of what passes a limit (`TooManyBins`); a range without numbers, or with a number that its `bins` has twice (`BadBins`).
     Refused { number: u8, token: u32 },
     /// There was no memory.
     NoMemory,
@@ -28,14 +29,17 @@ impl From<AllocError> for CoverFault {
     }
 }
 
-/// Nothing, or the refusal of this number at a token.
-pub(crate) fn unless(fine: bool, number: u8, token: u32) -> Result<(), CoverFault>
-    ensures { MatchResult result (λ _. spec.unless fine number token ≡ []) (λ e. spec.unless fine number token ≡ e ∷ []) }
+/// Nothing, or a refusal at a token.
+pub(crate) fn unless(fine: bool, why: Refusal, token: u32) -> Result<(), CoverFault>
+    ensures { MatchResult result (λ _. spec.unless fine why token ≡ []) (λ e. spec.unless fine why token ≡ e ∷ []) }
 {
     if fine {
         Ok(())
     } else {
-        Err(CoverFault::Refused { number, token })
+        Err(CoverFault::Refused {
+            number: why.number(),
+            token,
+        })
     }
 }
 

@@ -16,6 +16,7 @@ use crate::parts::About;
 use sqlite_items::Items;
 use std::alloc::Global;
 use svr_cover_text::{GroupText, PartText};
+use svr_refusal::Refusal;
 use svr_token::Names;
 use svr_typed::{FlatClass, TClass};
 
@@ -156,8 +157,8 @@ fn check_group(
     let names = places.names;
     let class = class_of(classes.classes, names.name(group.class));
     places.first(at, group.name)?;
-    unless(at < MOST_GROUPS, 34, group.name)?;
-    unless(class.is_some(), 32, group.class)?;
+    unless(at < MOST_GROUPS, Refusal::TooManyBins, group.name)?;
+    unless(class.is_some(), Refusal::UnknownCover, group.class)?;
     check_inside(alloc, names, classes, class, total, group)
 }
 
@@ -180,8 +181,8 @@ fn check_each(
     Ok(())
 }
 
-/// Errors: the first refusal of groups over the classes of a script in the order of the text, at one place that of the lower number: 32, a name that is no class, no scalar property of it, not the formal argument, or no earlier point of the group;
-/// 33, a second group, part of a group or `bins` of a point of one name; 34, over 64 groups, 64 parts, 1,024 bins of a point, 65,536 tuples of a cross or 1,048,576 tuples of all crosses together; 35, a range without numbers, or with a number that a `bins` with `[]` has twice.
+/// Errors: the first refusal of groups over the classes of a script in the order of the text, at one place that of the lower number: `UnknownCover`, a name that is no class, no scalar property of it, not the formal argument, or no earlier point of the group;
+/// `DoubleCover`, a second group, part of a group or `bins` of a point of one name; `TooManyBins`, over 64 groups, 64 parts, 1,024 bins of a point, 65,536 tuples of a cross or 1,048,576 tuples of all crosses together; `BadBins`, a range without numbers, or with a number that a `bins` with `[]` has twice.
 pub fn check(
     alloc: Global,
     names: Names<'_>,

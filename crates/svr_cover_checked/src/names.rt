@@ -8,6 +8,7 @@ ghost use Rattle.svr_cover_checked.specs.Tables.{entry_of, found_in};
 use crate::fault::{CoverFault, unless};
 use indexmap::IndexMap;
 use std::alloc::Global;
+use svr_refusal::Refusal;
 use svr_token::Names;
 
 /// What the tokens spell, and where each name of a kind stands first.
@@ -91,10 +92,10 @@ impl Places<'_, '_> {
         self.table.get(self.names.name(name)).copied()
     }
 
-    /// Errors: 33 where the name at a place has stood before.
+    /// Errors: `DoubleCover` where the name at a place has stood before.
     pub(crate) fn first(&self, at: usize, name: u32) -> Result<(), CoverFault>
         ensures { let rs = spec.second (names_of self.now.names) (found_in self.now.table.now.entries) at name in MatchResult result (λ _. rs ≡ []) (λ e. rs ≡ e ∷ []) }
     {
-        unless(is_at(self.place(name), at), 33, name)
+        unless(is_at(self.place(name), at), Refusal::DoubleCover, name)
     }
 }

@@ -16,6 +16,7 @@ use indexmap::IndexMap;
 use sqlite_items::at as item_at;
 use std::alloc::Global;
 use svr_cover_text::{BinsText, PartText};
+use svr_refusal::Refusal;
 use svr_token::Names;
 use svr_typed::Prop;
 
@@ -107,37 +108,45 @@ impl About<'_, '_> {
         Some(product)
     }
 
-    /// Errors: 32 at the first name that is no earlier point.
+    /// Errors: `UnknownCover` at the first name that is no earlier point.
     fn check_points(&self, at: usize, points: &[u32]) -> Result<(), CoverFault>
         ensures { let rs = spec.points_refusals (seen self.now) at points.now in MatchResult result (λ _. rs ≡ []) (λ e. first_of rs ≡ Some e) }
     {
         let mut left = points;
         'points: while let Some((point, others)) = left.split_first() {
-            unless(self.point_bins(at, *point).is_some(), 32, *point)?;
+            unless(
+                self.point_bins(at, *point).is_some(),
+                Refusal::UnknownCover,
+                *point,
+            )?;
             left = others;
         }
         Ok(())
     }
 
-    /// Errors: 33, and 34 at one part too many.
+    /// Errors: `DoubleCover`, and `TooManyBins` at one part too many.
     fn check_head(&self, at: usize, name: u32) -> Result<(), CoverFault>
         ensures { let rs = spec.head_refusals (seen self.now) at name in MatchResult result (λ _. rs ≡ []) (λ e. first_of rs ≡ Some e) }
     {
-        unless(is_at(self.place(name), at), 33, name)?;
-        unless(at < MOST_PARTS, 34, name)
+        unless(is_at(self.place(name), at), Refusal::DoubleCover, name)?;
+        unless(at < MOST_PARTS, Refusal::TooManyBins, name)
     }
 
-    /// Errors: 32 at the formal argument or the property of a point.
+    /// Errors: `UnknownCover` at the formal argument or the property of a point.
     fn check_names(&self, formal: u32, prop: u32) -> Result<(), CoverFault>
         ensures { let rs = spec.names_refusals (seen self.now) formal prop in MatchResult result (λ _. rs ≡ []) (λ e. first_of rs ≡ Some e) }
     {
         let names = self.names;
         unless(
             is_same(names.name(formal), names.name(self.formal)),
-            32,
+            Refusal::UnknownCover,
             formal,
         )?;
-        unless(prop_of(self.props, names.name(prop)).is_some(), 32, prop)
+        unless(
+            prop_of(self.props, names.name(prop)).is_some(),
+            Refusal::UnknownCover,
+            prop,
+        )
     }
 
     fn check_point(
@@ -166,7 +175,11 @@ impl About<'_, '_> {
         ensures { let rs = spec.cross_refusals (seen self.now) at total name points.now in MatchResult result (λ _. rs ≡ []) (λ e. first_of rs ≡ Some e) }
     {
         self.check_head(at, name)?;
-        unless(tuples_fit(self.tuples(at, points), total), 34, name)?;
+        unless(
+            tuples_fit(self.tuples(at, points), total),
+            Refusal::TooManyBins,
+            name,
+        )?;
         self.check_points(at, points)
     }
 

@@ -1,8 +1,9 @@
 // The numbers of a `bins` (IEEE 1800-2017, 19.5.1).
 
-ghost use Rattle.std.specs.Prelude.{◌≡◌, ◌≤◌, [], Some, take, length, MatchResult};
+ghost use Rattle.std.specs.Prelude.{◌≡◌, ◌≤◌, ◌+◌, [], Some, take, length, MatchResult};
 ghost use Rattle.std.specs.List.{list_any};
 ghost use Rattle.svr_token.specs.Names.{names_of};
+ghost use Rattle.svr_cover_checked.specs.declared.limits.TheConstants.{MOST_BINS};
 ghost use Rattle.svr_cover_checked.specs.Numbers as spec;
 ghost use Rattle.svr_cover_checked.specs.Numbers.{first_of};
 
@@ -10,6 +11,7 @@ use crate::fault::{CoverFault, unless};
 use crate::limits::MOST_BINS;
 use crate::numbers::value;
 use svr_cover_text::{BinsText, NumText, RangeText};
+use svr_refusal::Refusal;
 use svr_token::Names;
 
 /// Where 0 stands among the numbers that may be written, the lowest of which is -(2^32 - 1).
@@ -94,7 +96,7 @@ fn fits(names: Names<'_>, each: bool, earlier: &[RangeText], range: RangeText) -
     !is_empty(names, range) && !(each && overlap_any(names, range, earlier))
 }
 
-/// Errors: 35 at the first range that has no numbers, or that has one of an earlier range where each number is a bin.
+/// Errors: `BadBins` at the first range that has no numbers, or that has one of an earlier range where each number is a bin.
 pub(crate) fn check_ranges(
     names: Names<'_>,
     each: bool,
@@ -105,7 +107,11 @@ pub(crate) fn check_ranges(
     let mut left = ranges;
     let mut at: usize = 0;
     'walk: while let Some((range, others)) = left.split_first() {
-        unless(fits(names, each, &ranges[..at], *range), 35, range.at)?;
+        unless(
+            fits(names, each, &ranges[..at], *range),
+            Refusal::BadBins,
+            range.at,
+        )?;
         left = others;
         at += 1;
     }
@@ -115,7 +121,7 @@ pub(crate) fn check_ranges(
 /// How many numbers ranges have, up to one more than there may be bins.
 fn sizes(names: Names<'_>, ranges: &[RangeText]) -> u64
     ensures is { result ≡ spec.sizes (names_of names.entry) 0 ranges.now }
-    ensures near { result ≤ 1025 }
+    ensures near { result ≤ MOST_BINS + 1 }
 {
     let mut sum: u64 = 0;
     let mut left = ranges;
@@ -129,7 +135,7 @@ fn sizes(names: Names<'_>, ranges: &[RangeText]) -> u64
 /// How many bins a `bins` is, up to one more than there may be.
 pub(crate) fn bins_count(names: Names<'_>, bins: &BinsText) -> u64
     ensures is { result ≡ spec.bins_count (names_of names.entry) bins.now }
-    ensures near { result ≤ 1025 }
+    ensures near { result ≤ MOST_BINS + 1 }
 {
     if bins.each {
         sizes(names, bins.ranges.as_slice())

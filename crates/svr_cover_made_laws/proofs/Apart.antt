@@ -7,6 +7,7 @@ use Rattle.std.proofs.lemmas.List.Elements.{All-nil, All-cons, All-head, All-tai
 use Rattle.std.proofs.lemmas.List.Sums.{sum_by-cons}
 use Rattle.svr_typed.specs.declared.class.TClass.{TClass}
 use Rattle.svr_typed.specs.declared.class.FlatClass.{FlatClass}
+use Rattle.svr_refusal.specs.declared.refusal.Refusal.TheVariants as refusal
 use Rattle.svr_cover_text.specs.declared.text.GroupText.{GroupText}
 use Rattle.svr_cover_union.specs.Union.{hits_from}
 use Rattle.svr_cover.specs.declared.point.Point.{Point}
@@ -170,9 +171,9 @@ module _ (text : Spelling) (classes : List TClass) (flats : List FlatClass) wher
     where
       inner : (find : Finder) (i total : ℕ) (x : GroupText) → group_refusals text classes flats find i total x ≡ [] → parts_refusals (group_of text classes flats x) 0 total x.parts ≡ []
       inner find i total x e =
-          right_empty (unless (is_some (class_from 0 classes (text x.class))) 32 x.class) (parts_refusals (group_of text classes flats x) 0 total x.parts)
-          (right_empty (unless (nat_lt i MOST_GROUPS) 34 x.name) (unless (is_some (class_from 0 classes (text x.class))) 32 x.class ++ parts_refusals (group_of text classes flats x) 0 total x.parts)
-          (right_empty (second text find i x.name) (unless (nat_lt i MOST_GROUPS) 34 x.name ++ (unless (is_some (class_from 0 classes (text x.class))) 32 x.class ++ parts_refusals (group_of text classes flats x) 0 total x.parts)) e))
+          right_empty (unless (is_some (class_from 0 classes (text x.class))) refusal.UnknownCover x.class) (parts_refusals (group_of text classes flats x) 0 total x.parts)
+          (right_empty (unless (nat_lt i MOST_GROUPS) refusal.TooManyBins x.name) (unless (is_some (class_from 0 classes (text x.class))) refusal.UnknownCover x.class ++ parts_refusals (group_of text classes flats x) 0 total x.parts)
+          (right_empty (second text find i x.name) (unless (nat_lt i MOST_GROUPS) refusal.TooManyBins x.name ++ (unless (is_some (class_from 0 classes (text x.class))) refusal.UnknownCover x.class ++ parts_refusals (group_of text classes flats x) 0 total x.parts)) e))
 
   pub are_apart : (groups : List GroupText) (m : Made) → refusals text classes flats groups ≡ [] → m.counters < 2 ^ 64 → IsMade text classes flats groups m → AreApart m.groups m.counters
   are_apart groups m e l h =

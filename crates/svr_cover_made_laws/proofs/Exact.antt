@@ -4,6 +4,7 @@ use Rattle.std.specs.Prelude.{⊤, slice_index}
 use Rattle.std.proofs.Math.Nat.{mul_assoc, mul_comm}
 use Rattle.std.proofs.lemmas.Bool.{leb-true, and_parts, cases_lt}
 use Rattle.std.proofs.lemmas.List.{reverse-append}
+use Rattle.svr_refusal.specs.declared.refusal.Refusal.TheVariants as refusal
 use Rattle.svr_cover_text.specs.declared.text.PartText.{PartText}
 use Rattle.svr_cover_text.specs.declared.text.PartText.TheVariants as t
 use Rattle.svr_cover.specs.declared.point.Point.{Point}
@@ -57,8 +58,8 @@ module _ (g : Group) (parts : List PartText) (same : g.counts ≡ map (size_of_p
 
   counted : (i product : ℕ) (ps : List ℕ) → points_refusals g i ps ≡ [] → Counted i product ps
   counted i product [] e = (product, refl, λ _. let q : product ≡ product * 1 = omega arith in q)
-  counted i product (p ∷ ps) e = go (point_bins g i p) refl (unless_fine (is_some (point_bins g i p)) 32 p (left_empty (unless (is_some (point_bins g i p)) 32 p) (points_refusals g i ps) e))
-      (λ next. counted i next ps (right_empty (unless (is_some (point_bins g i p)) 32 p) (points_refusals g i ps) e))
+  counted i product (p ∷ ps) e = go (point_bins g i p) refl (unless_fine (is_some (point_bins g i p)) refusal.UnknownCover p (left_empty (unless (is_some (point_bins g i p)) refusal.UnknownCover p) (points_refusals g i ps) e))
+      (λ next. counted i next ps (right_empty (unless (is_some (point_bins g i p)) refusal.UnknownCover p) (points_refusals g i ps) e))
     where
       go : (o : Option ℕ) → point_bins g i p ≡ o → is_some o ≡ true → ((next : ℕ) → Counted i next ps) → Counted i product (p ∷ ps)
       go None h s f = absurd (true≢false (sym s))
@@ -72,12 +73,12 @@ module _ (g : Group) (parts : List PartText) (same : g.counts ≡ map (size_of_p
 
   cross-is : (i total name : ℕ) (points : List ℕ) → part_refusals g i total (t.Cross name points) ≡ [] → or_zero (tuples_from g i 1 points) ≡ product_of points
   cross-is i total name points e =
-      let one : unless (tuples_fit (tuples_from g i 1 points) total) 34 name ++ points_refusals g i points ≡ [] =
-      right_empty (head_refusals g i name) (unless (tuples_fit (tuples_from g i 1 points) total) 34 name ++ points_refusals g i points) e
+      let one : unless (tuples_fit (tuples_from g i 1 points) total) refusal.TooManyBins name ++ points_refusals g i points ≡ [] =
+      right_empty (head_refusals g i name) (unless (tuples_fit (tuples_from g i 1 points) total) refusal.TooManyBins name ++ points_refusals g i points) e
       in
-      let r = counted i 1 points (right_empty (unless (tuples_fit (tuples_from g i 1 points) total) 34 name) (points_refusals g i points) one) in
+      let r = counted i 1 points (right_empty (unless (tuples_fit (tuples_from g i 1 points) total) refusal.TooManyBins name) (points_refusals g i points) one) in
       let fit : tuples_fit (tuples_from g i 1 points) total ≡ true =
-      unless_fine (tuples_fit (tuples_from g i 1 points) total) 34 name (left_empty (unless (tuples_fit (tuples_from g i 1 points) total) 34 name) (points_refusals g i points) one)
+      unless_fine (tuples_fit (tuples_from g i 1 points) total) refusal.TooManyBins name (left_empty (unless (tuples_fit (tuples_from g i 1 points) total) refusal.TooManyBins name) (points_refusals g i points) one)
       in
       let fits : (nat_le r.0 MOST_TUPLES && nat_le (min (total + r.0) (2 ^ 64 - 1)) MOST_ALL) ≡ true = ap (λ o. tuples_fit o total) (sym r.1) ∙ fit in
       let few : r.0 ≤ 65536 = leb-true r.0 65536 (and_parts (nat_le r.0 MOST_TUPLES) (nat_le (min (total + r.0) (2 ^ 64 - 1)) MOST_ALL) fits).0 in

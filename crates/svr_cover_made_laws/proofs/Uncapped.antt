@@ -2,6 +2,7 @@
 use Rattle.std.proofs.Common.{◌≡◌, ℕ, zero, suc, ◌+◌, ◌≤◌, min, Bool, true, false, nat_le, List, [], ◌∷◌, ◌++◌, length, length-append, sym, ◌∙◌, arith, if◌then◌else◌}
 use Rattle.std.proofs.lemmas.Bool.{leb-true}
 use Rattle.svr_typed.specs.declared.class.NumType.{NumType}
+use Rattle.svr_refusal.specs.declared.refusal.Refusal.TheVariants as refusal
 use Rattle.svr_cover_text.specs.declared.text.RangeText.{RangeText}
 use Rattle.svr_cover_text.specs.declared.text.BinsText.{BinsText}
 use Rattle.svr_cover_union.specs.declared.ranges.Range.{Range}
@@ -58,11 +59,11 @@ module _ (text : Spelling) (kind : NumType) where
   count_is find i count bins (b ∷ bs) l e =
       let one : one_refusals text find i count b ≡ [] = left_empty (one_refusals text find i count b) (bins_refusals text find (suc i) (count_behind text count b) bs) e in
       let rest : bins_refusals text find (suc i) (count_behind text count b) bs ≡ [] = right_empty (one_refusals text find i count b) (bins_refusals text find (suc i) (count_behind text count b) bs) e in
-      let some : unless (nat_le (count + bins_count text b) MOST_BINS) 34 b.name ++ ranges_refusals text b.each b.ranges 0 b.ranges ≡ [] =
-      right_empty (second text find i b.name) (unless (nat_le (count + bins_count text b) MOST_BINS) 34 b.name ++ ranges_refusals text b.each b.ranges 0 b.ranges) one
+      let some : unless (nat_le (count + bins_count text b) MOST_BINS) refusal.TooManyBins b.name ++ ranges_refusals text b.each b.ranges 0 b.ranges ≡ [] =
+      right_empty (second text find i b.name) (unless (nat_le (count + bins_count text b) MOST_BINS) refusal.TooManyBins b.name ++ ranges_refusals text b.each b.ranges 0 b.ranges) one
       in
       let fit : nat_le (count + bins_count text b) MOST_BINS ≡ true =
-      unless_fine (nat_le (count + bins_count text b) MOST_BINS) 34 b.name (left_empty (unless (nat_le (count + bins_count text b) MOST_BINS) 34 b.name) (ranges_refusals text b.each b.ranges 0 b.ranges) some)
+      unless_fine (nat_le (count + bins_count text b) MOST_BINS) refusal.TooManyBins b.name (left_empty (unless (nat_le (count + bins_count text b) MOST_BINS) refusal.TooManyBins b.name) (ranges_refusals text b.each b.ranges 0 b.ranges) some)
       in
       let few : count + bins_count text b ≤ 1024 = leb-true (count + bins_count text b) 1024 fit in
       let is : bins_count text b ≡ min (many_of b) 1025 = count-is b in

@@ -1,5 +1,6 @@
 use Rattle.std.proofs.Common.{◌++◌}
 use Rattle.std.proofs.lemmas.Result.{err_from_is_err_and}
+use Rattle.svr_refusal.specs.declared.refusal.Refusal.TheVariants.{TooManyBins}
 use Rattle.svr_cover_checked.specs.Numbers.{unless}
 use Rattle.svr_cover_checked.specs.Refusals.{head_refusals, tuples_from, tuples_fit, points_refusals}
 use Rattle.svr_cover_checked.specs.Seen.{seen}
@@ -11,5 +12,5 @@ returns-in_err-check_head c =
     let q = err_from_is_err_and c.from_residual.result c.from_residual.ensures.1 in
     let g = seen c.args.self.now in
     rw (q.1, q.2)
-    (first-append (head_refusals g c.args.at c.args.name) (unless (tuples_fit (tuples_from g c.args.at 1 c.args.points.now) c.args.total) 34 c.args.name ++ points_refusals g c.args.at c.args.points.now)
+    (first-append (head_refusals g c.args.at c.args.name) (unless (tuples_fit (tuples_from g c.args.at 1 c.args.points.now) c.args.total) TooManyBins c.args.name ++ points_refusals g c.args.at c.args.points.now)
     c.in_err-check_head.field-0.0 c.in_err-check_head.ensures)
