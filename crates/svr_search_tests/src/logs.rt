@@ -10,6 +10,8 @@ use svr_chain::{Cnf, Link, Reason, Refutation, Step, Verdict, check};
 enum Formula {
     /// 1 2, not 1 2, and not 2
     Three,
+    /// 1 2
+    Single,
     /// 1 2, and not 1 not 2
     Apart,
     /// 1, 1 2, and not 2 3
@@ -30,7 +32,7 @@ struct Case {
     verdict: Verdict,
 }
 
-const CASES: [Case; 15] = [
+const CASES: [Case; 19] = [
     Case {
         formula: Formula::Three,
         assume: 3,
@@ -169,11 +171,49 @@ const CASES: [Case; 15] = [
         goal: Some(1),
         verdict: Verdict::Accepted,
     },
+    Case {
+        formula: Formula::Three,
+        assume: 3,
+        steps: [Some((1, 1, 2)), Some((4, 2, 3))],
+        goal: Some(4),
+        verdict: Verdict::Rejected {
+            step: 3,
+            reason: Reason::NotGoal,
+        },
+    },
+    Case {
+        formula: Formula::Three,
+        assume: 3,
+        steps: [Some((1, 1, 2)), Some((4, 2, 3))],
+        goal: Some(9),
+        verdict: Verdict::Rejected {
+            step: 3,
+            reason: Reason::NotGoal,
+        },
+    },
+    Case {
+        formula: Formula::Three,
+        assume: -2,
+        steps: [Some((1, 1, 2)), Some((4, 2, 3))],
+        goal: Some(4),
+        verdict: Verdict::Accepted,
+    },
+    Case {
+        formula: Formula::Single,
+        assume: 3,
+        steps: [Some((1, 0, 0)), None],
+        goal: None,
+        verdict: Verdict::Rejected {
+            step: 1,
+            reason: Reason::Repeated,
+        },
+    },
 ];
 
 fn clauses_of(formula: Formula) -> &'static [&'static [i64]] {
     match formula {
         Formula::Three => &[&[1, 2], &[-1, 2], &[-2]],
+        Formula::Single => &[&[1, 2]],
         Formula::Apart => &[&[1, 2], &[-1, -2]],
         Formula::Wider => &[&[1], &[1, 2], &[-2, 3]],
         Formula::Empty => &[&[]],
