@@ -20,7 +20,7 @@ marked-more m ms v h =
 marked-first : (m : Entry) (ms : List Entry) → is_marked (m ∷ ms) m.lit.var ≡ true
 marked-first m ms = ap is_some (cond-true _ _ _ (eq-eqb m.lit.var m.lit.var refl))
 
-marked-rest : (m : Entry) (ms : List Entry) (v : ℕ) → nat_eq m.lit.var v ≡ false → is_marked (m ∷ ms) v ≡ true → is_marked ms v ≡ true
+pub marked-rest : (m : Entry) (ms : List Entry) (v : ℕ) → nat_eq m.lit.var v ≡ false → is_marked (m ∷ ms) v ≡ true → is_marked ms v ≡ true
 marked-rest m ms v t h = ap is_some (sym (cond-false _ _ _ t)) ∙ h
 
 -- no marked literal but the pivot is left of the level

@@ -35,6 +35,10 @@ Marks old new keep c = (v : ℕ) → is_marked new v ≡ (is_marked old v || tou
 abbrev pub is_last : List Entry → ℕ → ℕ → Lit → List Entry → Bool
 is_last es base left p ms = list_all (λ m. same_lit m.lit p || (is_false (value_in (take base es) m.lit) || not (is_false (value_in (take left es) m.lit)))) ms
 
+-- no marked literal is false by the first `place` entries
+abbrev pub are_passed : List Entry → ℕ → List Entry → Bool
+are_passed es place ms = list_all (λ m. not (is_false (value_in (take place es) m.lit))) ms
+
 -- the variables of the literals but the kept one are marked
 abbrev pub are_marked : List Entry → Option Lit → List Lit → Bool
 are_marked ms keep c = list_all (λ x. is_kept keep x || is_marked ms x.var) c

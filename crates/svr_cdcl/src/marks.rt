@@ -1,6 +1,6 @@
 // The literals seen in an analysis.
 
-ghost use Rattle.std.specs.Prelude.{◌≡◌, ◌≢◌, ℕ, ◌||◌, true, false, IfOk, IfSome, IsSome, List, None, Some, map, nat_eq};
+ghost use Rattle.std.specs.Prelude.{◌≡◌, ◌≢◌, ℕ, ◌||◌, true, false, IfOk, IfSome, IsSome, List, None, Some, map, nat_eq, take};
 ghost use Rattle.std.specs.List.{list_all};
 ghost use Rattle.svr_chain.specs.declared.clause.Lit.{Lit};
 ghost use Rattle.svr_chain.specs.Clauses.{AreWithin, has};
@@ -22,6 +22,16 @@ pub fn is_kept(keep: Option<Lit>, lit: Lit) -> bool
     match keep {
         None => false,
         Some(kept) => lit == kept,
+    }
+}
+
+/// Whether a literal is false by the entries before a place.
+pub fn is_false_before(trail: &Trail, place: usize, lit: Lit) -> bool
+    ensures { result ≡ is_false (value_in (take place trail.now.entries) lit) }
+{
+    match trail.value_before(lit, place) {
+        None => false,
+        Some(value) => !value,
     }
 }
 
