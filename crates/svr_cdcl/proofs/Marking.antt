@@ -6,7 +6,6 @@ use Rattle.std.proofs.lemmas.Bool.{and_parts, and_from, or_cases, or_left, or_ri
 use Rattle.svr_chain.specs.declared.clause.Lit.{Lit}
 use Rattle.svr_chain.specs.declared.log.Link.{Link}
 use Rattle.svr_chain.specs.Clauses.{same_sign, same_lit, flip, has, resolvent}
-use Rattle.svr_chain.specs.Log.{named}
 use Rattle.svr_chain.specs.Same.{SameLits, SameResult}
 use Rattle.svr_chain.proofs.Sound.{same_lit-true}
 use Rattle.svr_chain.proofs.Same.{iff_eq, lit-self, all-has, all-from, all-same, has-resolvent}

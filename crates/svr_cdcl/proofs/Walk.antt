@@ -1,5 +1,5 @@
 -- The walk back over the trail: the marked literals that are false before a place are those of the derived clause
-use Rattle.std.proofs.Common.{◌≡◌, ℕ, ◌+◌, ◌-◌, ◌<◌, ◌≤◌, Bool, true, false, ◌&&◌, ◌||◌, not, nat_eq, List, [], ◌∷◌, ◌++◌, length, refl, ap, sym, ◌∙◌, subst, arith, Option, Some, None, Ok, get_or, take, inl, inr}
+use Rattle.std.proofs.Common.{◌≡◌, ℕ, ◌+◌, ◌-◌, ◌<◌, ◌≤◌, Bool, true, false, ◌&&◌, ◌||◌, not, nat_eq, List, [], ◌∷◌, ◌++◌, length, refl, ap, sym, ◌∙◌, arith, Option, Some, None, get_or, take, inl, inr}
 use Rattle.std.specs.Prelude.{◌⊎◌, is_some, is_none, if◌then◌else◌}
 use Rattle.std.specs.Option.{option_map}
 use Rattle.std.proofs.lemmas.Bool.{and_parts, and_from, or_cases, or_left, or_right, not-true, both_ways, cases_Bool, eq-eqb, eqb-true, false≢true}
@@ -16,8 +16,7 @@ use Rattle.svr_chain.proofs.ClauseLemmas.{flip-flip}
 use Rattle.svr_trail.specs.declared.Entry.{Entry}
 use Rattle.svr_trail.specs.Trail.{sign_at, value_in, is_false, is_false_but, Forces, WasOpen}
 use Rattle.svr_trail.proofs.Trails.{sign_at-push_same}
-use Rattle.svr_cdcl.specs.Learned.{Derives, is_kept}
-use Rattle.svr_chain.specs.Same.{SameResult}
+use Rattle.svr_cdcl.specs.Learned.{is_kept}
 use Rattle.svr_cdcl.specs.Walk.{Walk}
 use Rattle.svr_cdcl.specs.Marks.{AreFalse, IsKept, Marks, begun, is_false_besides, is_marked, touches}
 use Rattle.svr_cdcl.proofs.Chains.{after_links-push, after_link-ok, false-less}
@@ -365,13 +364,3 @@ module _ (ks : List (List Lit)) (es ms : List Entry) (number : ℕ) (out : List 
       (u : Marks ms ns (Some e.lit) k) → (walk-resolves n ns k m f q a u).clause ≡ resolvent w.clause p k
   unfolding walk-resolves
   resolves-clause n ns k m f q a u = refl
-
--- at the start of the trail the clause is what was put out
-pub walk-ends : (ks : List (List Lit)) (es : List Entry) (number : ℕ) (ms : List Entry) (out : List Lit) (links : List Link) (left : ℕ) → Walk ks es number ms out links left → left ≡ 0
-    → Derives ks (record { start = number; links = links }) out
-walk-ends ks es number ms out links left w z =
-    subst (λ r. SameResult r (Ok out)) (sym w.derives) (λ x. w.same x ∙ goes x (has out x) (is_false (value_in (take left es) x)) (ap (λ n. is_false (value_in (take n es) x)) z))
-  where
-    goes : (x : Lit) (a b : Bool) → b ≡ false → (a || (b && is_marked ms x.var)) ≡ a
-    goes x true b e = refl
-    goes x false b e = ap (λ q. q && is_marked ms x.var) e

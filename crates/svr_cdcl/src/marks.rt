@@ -1,12 +1,12 @@
 // The literals seen in an analysis.
 
-ghost use Rattle.std.specs.Prelude.{◌≡◌, ◌≢◌, ℕ, ◌||◌, true, false, IfOk, IfSome, IsSome, List, None, Some, map, nat_eq, take};
+ghost use Rattle.std.specs.Prelude.{◌≡◌, ◌≢◌, ℕ, ◌<◌, ◌||◌, true, false, IfOk, IfSome, IsSome, List, None, Some, map, nat_eq, take};
 ghost use Rattle.std.specs.List.{list_all};
 ghost use Rattle.svr_chain.specs.declared.clause.Lit.{Lit};
 ghost use Rattle.svr_chain.specs.Clauses.{AreWithin, has};
 ghost use Rattle.svr_chain.specs.Log.{named};
 ghost use Rattle.svr_cdcl.specs.Learned.{is_kept};
-ghost use Rattle.svr_cdcl.specs.Marks.{AreFalse, Marks, is_false_besides, is_marked, is_touched};
+ghost use Rattle.svr_cdcl.specs.Marks.{AreFalse, Marks, are_passed, is_false_besides, is_marked, is_touched};
 ghost use Rattle.svr_trail.specs.Trail.{is_false, value_in};
 ghost use Rattle.svr_watch.specs.Codes.{lit_of};
 ghost use Rattle.svr_watch.specs.Store.{clauses_of};
@@ -134,6 +134,32 @@ pub fn mark_clause(
         Held::Watched(clause) => mark_codes(trail, marks, base, store.codes(*clause), keep),
         Held::Apart(clause) => mark_lits(trail, marks, base, clause.lits(), keep),
     }
+}
+
+/// Whether none of these literals was made false before a place.
+fn are_passed(trail: &Trail, place: usize, marks: &[Entry]) -> bool
+    ensures { result ≡ are_passed trail.now.entries place marks.now }
+{
+    for mark in marks {
+        if is_false_before(trail, place, mark.lit) {
+            return false;
+        }
+    }
+    true
+}
+
+/// Whether a walk back that has come to a place must go on: a marked literal was made false before it. `passed` is how many of them stand behind the place; where there are more, none is looked at.
+pub fn has_more(trail: &Trail, marks: &Trail, place: usize, passed: usize) -> bool
+    ensures more { result ≡ true → 0 < place }
+    ensures done { result ≡ false → are_passed trail.now.entries place marks.now.entries ≡ true }
+{
+    if place == 0 {
+        return false;
+    }
+    if passed < marks.len() {
+        return true;
+    }
+    !are_passed(trail, place, marks.entries())
 }
 
 /// Whether a literal is in the clause of a number.

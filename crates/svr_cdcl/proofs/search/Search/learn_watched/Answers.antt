@@ -1,10 +1,9 @@
-use Rattle.std.proofs.Common.{◌≡◌, ◌∙◌, ℕ, ◌*◌, ◌++◌, ◌∷◌, [], List, Option, length, map, get_or, ap, sym, arith}
+use Rattle.std.proofs.Common.{◌≡◌, ◌∙◌, ℕ, ◌*◌, ◌++◌, ◌∷◌, [], List, Option, map, get_or, ap, sym, arith}
 use Rattle.std.specs.Prelude.{IfSome, IfNone}
 use Rattle.std.specs.Vec.{with_items}
 use Rattle.std.proofs.lemmas.List.{with_items_is}
 use Rattle.svr_chain.specs.declared.clause.Lit.{Lit}
 use Rattle.svr_chain.proofs.Same.{same-self, same-push}
-use Rattle.svr_trail.specs.declared.Entry.{Entry}
 use Rattle.svr_trail.specs.Trail.{IsUnit}
 use Rattle.svr_watch.specs.Codes.{lit_of}
 use Rattle.svr_watch.specs.Store.{StoreView, IsAdded, IsRoomier, clauses_of}
