@@ -14,7 +14,7 @@ pub fn learn_from(
     cnf: &[Clause],
     search: &mut Search,
     steps: &mut Vec<Step>,
-    order: &mut Order<'_>,
+    order: &mut Order,
     number: u64,
 ) -> Result<usize, NoMemory>
     requires fault { IsFault search.old.clauses search.old.entries number }

@@ -7,9 +7,9 @@ ghost use Rattle.svr_query.specs.Found.{IsFound};
 ghost use Rattle.svr_query.specs.Logged.{IsLogged};
 
 use crate::memory::NoMemory;
+use crate::order::Order;
 use crate::run::{Found, run};
 use crate::sweep::{kept_steps, sweep};
-use std::alloc::Global;
 use svr_cdcl::Search;
 use svr_chain::{Clause, Lit, Step};
 
@@ -22,10 +22,10 @@ pub struct Limit {
 
 /// Searches up to an answer, or until the steps were made. Where a sweep over the bits fits into them, the last ones are kept for it, and there is an answer.
 pub fn search_within(
-    alloc: Global,
     cnf: &[Clause],
     search: &mut Search,
     steps: &mut Vec<Step>,
+    order: &mut Order,
     assume: &[Lit],
     prefer: &[bool],
     limit: Limit,
@@ -45,15 +45,18 @@ pub fn search_within(
     ensures many { IfOk result (λ r. r ≡ Found.Spent → AreMany limit.bits limit.steps) }
 {
     let Some(bits) = limit.bits else {
-        return run(alloc, cnf, search, steps, assume, prefer, limit.steps);
+        return run(cnf, search, steps, order, assume, prefer, limit.steps);
     };
     let Some(kept) = kept_steps(bits, limit.steps) else {
-        return run(alloc, cnf, search, steps, assume, prefer, limit.steps);
+        return run(cnf, search, steps, order, assume, prefer, limit.steps);
     };
     let first = limit.steps - kept;
-    match run(alloc, cnf, search, steps, assume, prefer, first)? {
+    match run(cnf, search, steps, order, assume, prefer, first)? {
         Found::Satisfied => Ok(Found::Satisfied),
         Found::Refuted(explained) => Ok(Found::Refuted(explained)),
-        Found::Spent => sweep(cnf, search, steps, assume, &prefer[..bits]),
+        Found::Spent => {
+            order.put_all_back(search);
+            sweep(cnf, search, steps, assume, &prefer[..bits])
+        }
     }
 }

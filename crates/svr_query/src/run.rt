@@ -13,7 +13,6 @@ use crate::memory::NoMemory;
 use crate::order::Order;
 use crate::propagate::propagate;
 use crate::restarts::Restarts;
-use std::alloc::Global;
 use svr_cdcl::{Learned, Search};
 use svr_chain::{Clause, Lit, Step};
 
@@ -119,14 +118,14 @@ pub fn first_open(search: &Search, prefer: &[bool]) -> Option<Lit>
 }
 
 /// The next decision, `None` where every variable is set. The order is not asked where it has none that is open.
-fn next_open(search: &Search, prefer: &[bool], order: &mut Order<'_>) -> Option<Lit>
+fn next_open(search: &Search, prefer: &[bool], order: &mut Order) -> Option<Lit>
     requires { length prefer.now ≡ search.now.vars }
     ensures open { IfSome result (λ l. value_in search.now.entries l ≡ None) }
     ensures within { IfSome result (IsWithin search.now.vars) }
     ensures none { IfNone result ((v : ℕ) → v < search.now.vars → IsSome (sign_at search.now.entries (v + 1))) }
 {
     if search.entries().len() < prefer.len() {
-        if let Some(lit) = order.next(search, prefer.len() as u64) {
+        if let Some(lit) = order.next(search, prefer) {
             return Some(lit);
         }
     }
@@ -194,18 +193,20 @@ fn keep_levels(search: &mut Search, levels: usize)
     search.backjump(levels);
 }
 
-/// Takes back the decisions from the first one on that was not assumed. What two questions assume in front stays set from one to the next.
-fn keep_asked(search: &mut Search, assume: &[Lit])
+/// Takes back the decisions from the first one on that was not assumed, and puts them back into the order. What two questions assume in front stays set from one to the next.
+fn keep_asked(search: &mut Search, assume: &[Lit], order: &mut Order)
     ensures vars { search.new.vars ≡ search.old.vars }
     ensures clauses { search.new.clauses ≡ search.old.clauses }
     ensures asked { Each (IsAsked assume.now) search.new.entries }
 {
     let levels = asked_levels(search, assume);
+    let others = search.level().saturating_sub(levels);
+    order.put_back(search.entries(), others);
     keep_levels(search, levels);
 }
 
 /// The same within a question. Of the first `kept` entries those that are taken back go back into the order.
-fn restart_asked(search: &mut Search, assume: &[Lit], order: &mut Order<'_>, kept: usize)
+fn restart_asked(search: &mut Search, assume: &[Lit], order: &mut Order, kept: usize)
     ensures vars { search.new.vars ≡ search.old.vars }
     ensures clauses { search.new.clauses ≡ search.old.clauses }
     ensures asked { Each (IsAsked assume.now) search.new.entries }
@@ -252,10 +253,10 @@ pub fn refuted_by(search: &Search, assume: &[Lit], lit: Lit) -> Result<Found, No
 
 /// Decides, propagates and learns until there is an answer, or just `budget` steps were made.
 pub fn run(
-    alloc: Global,
     cnf: &[Clause],
     search: &mut Search,
     steps: &mut Vec<Step>,
+    order: &mut Order,
     assume: &[Lit],
     prefer: &[bool],
     budget: u64,
@@ -272,13 +273,13 @@ pub fn run(
     ensures spent { IfOk result (λ r. r ≡ Found.Spent
         → length steps.old.items + budget ≤ length steps.new.items) }
 {
-    let mut order = Order::new(alloc, prefer);
     let mut restarts = Restarts::new();
     let mut seen = Seen {
         lits: 0,
         entries: 0,
     };
-    keep_asked(search, assume);
+    keep_asked(search, assume, order);
+    order.begin();
     let _ = search.level();
     let mut made = 0;
     'search: while made < budget {
@@ -288,18 +289,18 @@ pub fn run(
                     let explained = search.explain(number, None)?;
                     return Ok(Found::Refuted(explained));
                 }
-                let kept = learn_from(cnf, search, steps, &mut order, number)?;
+                let kept = learn_from(cnf, search, steps, order, number)?;
                 seen = still_seen(seen, kept);
                 made += 1;
                 if restarts.is_due() {
-                    restart_asked(search, assume, &mut order, kept);
+                    restart_asked(search, assume, order, kept);
                     seen = still_seen(seen, search.entries().len());
                 }
             }
             None => match next_unseen(search, assume, &mut seen) {
                 Assumed::Decide(lit) => decide(search, lit),
                 Assumed::Denied(lit) => return refuted_by(search, assume, lit),
-                Assumed::Done => match next_open(search, prefer, &mut order) {
+                Assumed::Done => match next_open(search, prefer, order) {
                     None => return Ok(Found::Satisfied),
                     Some(lit) => decide(search, lit),
                 },

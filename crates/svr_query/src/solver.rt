@@ -13,6 +13,7 @@ ghost use Rattle.svr_query.specs.Logged.{AreValues, AreWished, IsLogged};
 use crate::limit::{Limit, search_within};
 use crate::memory::NoMemory;
 use crate::model::is_model;
+use crate::order::Order;
 use crate::run::Found;
 use std::alloc::Global;
 use std::marker::Model;
@@ -30,12 +31,13 @@ pub enum Answer {
     Spent { log: Refutation, first: u64 },
 }
 
-/// Clauses, the steps that were derived from them, and the search over both.
+/// Clauses, the steps that were derived from them, and the search over both, with the order of its decisions.
 #[derive(Drop)]
 pub struct Solver {
     cnf: Cnf,
     search: Search,
     steps: Vec<Step>,
+    order: Order,
     /// How many of the first variables settle the others, where that is known.
     bits: Option<usize>,
 }
@@ -119,6 +121,7 @@ fn searched(
     cnf: &[Clause],
     search: &mut Search,
     steps: &mut Vec<Step>,
+    order: &mut Order,
     assume: &[Lit],
     prefer: &[bool],
     limit: Limit,
@@ -136,7 +139,7 @@ fn searched(
 {
     let alloc = *steps.allocator();
     let first = steps.len() as u64;
-    let found = search_within(alloc, cnf, search, steps, assume, prefer, limit)?;
+    let found = search_within(cnf, search, steps, order, assume, prefer, limit)?;
     let _ = search.level();
     match found {
         Found::Satisfied => {
@@ -168,10 +171,12 @@ impl Solver {
         ensures bits { IfOk result (λ s. s.bits ≡ None) }
     {
         let search = Search::new(alloc, &cnf)?;
+        let vars = cnf.vars;
         Ok(Solver {
             cnf,
             search,
             steps: Vec::new(alloc),
+            order: Order::new(alloc, vars),
             bits: None,
         })
     }
@@ -188,10 +193,12 @@ impl Solver {
         ensures bits { IfOk result (λ s. s.bits ≡ Some (length bits.items)) }
     {
         let search = Search::new(alloc, &cnf)?;
+        let vars = cnf.vars;
         Ok(Solver {
             cnf,
             search,
             steps: Vec::new(alloc),
+            order: Order::new(alloc, vars),
             bits: Some(bits.len()),
         })
     }
@@ -252,6 +259,7 @@ impl Solver {
             cnf,
             &mut self.search,
             &mut self.steps,
+            &mut self.order,
             assume,
             prefer,
             limit,
