@@ -11,6 +11,7 @@ mod restarts;
 mod run;
 mod solver;
 mod sweep;
+mod walk;
 
 pub use memory::NoMemory;
 pub use solver::{Answer, Solver};

@@ -279,7 +279,7 @@ pub fn run(
         entries: 0,
     };
     keep_asked(search, assume, order);
-    order.begin();
+    order.begin(prefer);
     let _ = search.level();
     let mut made = 0;
     'search: while made < budget {

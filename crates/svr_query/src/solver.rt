@@ -176,7 +176,7 @@ impl Solver {
             cnf,
             search,
             steps: Vec::new(alloc),
-            order: Order::new(alloc, vars),
+            order: Order::new(alloc, vars, 0),
             bits: None,
         })
     }
@@ -194,12 +194,13 @@ impl Solver {
     {
         let search = Search::new(alloc, &cnf)?;
         let vars = cnf.vars;
+        let count = bits.len();
         Ok(Solver {
             cnf,
             search,
             steps: Vec::new(alloc),
-            order: Order::new(alloc, vars),
-            bits: Some(bits.len()),
+            order: Order::new(alloc, vars, count),
+            bits: Some(count),
         })
     }
 

@@ -24,7 +24,7 @@ pub invariant_of-result : goal.invariant_of-result
 invariant_of-result c =
     let s = c.in_ok-search.search in
     let v : s.vars ≡ c.args.cnf.vars = ap (λ z. z.vars) c.in_ok-search.ensures.fresh in
-    let n : c.len.result ≡ length c.args.bits.items = c.len.ensures ∙ c.args.bits.ok.0 in
+    let n : c.len-count.result ≡ length c.args.bits.items = c.len-count.ensures ∙ c.args.bits.ok.0 in
     let f : length c.args.bits.items ≤ c.args.cnf.vars = few-bits c.args.cnf.vars c.args.bits.items c.requires.within c.requires.first in
     record {
       vars = v;
