@@ -24,13 +24,14 @@ SEED_1 = ["run", "--seed", "1"]
 
 
 def run(words, file):
-    """What the program prints, its processor seconds and its greatest memory in MB."""
-    with open(file, "rb") as text:
-        child = subprocess.Popen(words, stdin=text, stdout=subprocess.PIPE)
-        told = child.stdout.read().decode()
-        _, status, usage = os.wait4(child.pid, 0)
-    child.returncode = os.waitstatus_to_exitcode(status)
-    return told, usage.ru_utime + usage.ru_stime, usage.ru_maxrss / 1024
+    """What the program prints, its processor seconds and its greatest memory in MB.
+
+    A program begins with the memory of what starts it as its greatest; so `time`, which is small, starts it.
+    """
+    with open(file, "rb") as text, tempfile.NamedTemporaryFile("r") as told_by_time:
+        child = subprocess.run(["time", "-q", "-f", "%U %S %M", "-o", told_by_time.name, *words], stdin=text, stdout=subprocess.PIPE)
+        user, system, memory = told_by_time.read().split()
+    return child.stdout.decode(), float(user) + float(system), int(memory) / 1024
 
 
 def measured(words, file):
