@@ -5,6 +5,7 @@ mod learn;
 mod limit;
 mod memory;
 mod model;
+mod needed;
 mod order;
 mod propagate;
 mod restarts;

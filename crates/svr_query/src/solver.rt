@@ -13,6 +13,7 @@ ghost use Rattle.svr_query.specs.Logged.{AreValues, AreWished, IsLogged};
 use crate::limit::{Limit, search_within};
 use crate::memory::NoMemory;
 use crate::model::is_model;
+use crate::needed::{copy_steps, refutation_by, refutation_with};
 use crate::order::Order;
 use crate::run::Found;
 use std::alloc::Global;
@@ -54,18 +55,6 @@ impl Model for Solver {
     ghost invariant = { IsSolver };
 }
 
-fn copy_steps(alloc: Global, steps: &[Step]) -> Result<Vec<Step>, NoMemory>
-    ensures { IfOk result (λ v. v.items ≡ steps.now) }
-{
-    let mut copies = Vec::new(alloc);
-    for step in steps {
-        let links = Vec::from_slice(alloc, step.links.as_slice())?;
-        let start = step.start;
-        copies.push(Step { start, links })?;
-    }
-    Ok(copies)
-}
-
 /// The values of all variables, the preferred ones where they are open.
 fn values_of(alloc: Global, search: &Search, prefer: &[bool]) -> Result<Vec<bool>, NoMemory>
     requires { length prefer.now ≡ search.now.vars }
@@ -101,19 +90,14 @@ fn conclude(
     requires denied { are_denied assume.now explained.lits ≡ true }
     ensures { IfOk result (IsRefutation cnf.now assume.now) }
 {
-    let mut steps = copy_steps(alloc, steps)?;
-    if let Some(number) = search.find_part(explained.lits.lits()) {
-        return Ok(Refutation {
-            steps,
-            goal: Some(number),
-        });
+    let clauses = cnf.len() as u64;
+    match search.find_part(explained.lits.lits()) {
+        Some(number) => refutation_by(alloc, clauses, steps, number),
+        None => {
+            let next = search.next_number();
+            refutation_with(alloc, clauses, steps, explained.step, next)
+        }
     }
-    steps.push(explained.step)?;
-    let next = search.next_number();
-    Ok(Refutation {
-        steps,
-        goal: Some(next),
-    })
 }
 
 /// The answer of the search over these clauses, whose steps go behind those that were derived before.
