@@ -133,16 +133,26 @@ def last_class(size):
         text, number = text + more, number + 1
 
 
-def used_classes(size):
-    """A chain of classes, each of which adds a block, and a variable of each, at most 4,095."""
+def with_variables(size, value):
+    """A chain of classes, each of which adds a block, and a variable of each with this value, at most 4,095."""
     classes, declared, number, rest = "class C0;\nendclass\n", "C0 p = new;\n", 1, len(script("", "p.randomize();\n", ""))
     while True:
         more = f"class C{number} extends C{number - 1};\nconstraint c{number} {{}}\nendclass\n"
-        one = f"C{number} v{number};\n" if number < 4095 else ""
+        one = f"C{number} v{number}{value};\n" if number < 4095 else ""
         if len(classes) + len(declared) + len(more) + len(one) + rest > size:
             text = script(classes, "p.randomize();\n", declared)
             return text + " " * (size - len(text))
         classes, declared, number = classes + more, declared + one, number + 1
+
+
+def used_classes(size):
+    """A chain of classes, each of which adds a block, and a variable of each."""
+    return with_variables(size, "")
+
+
+def made_classes(size):
+    """A chain of classes, each of which adds a block, and an object of each."""
+    return with_variables(size, " = new")
 
 
 def objects(size):
@@ -214,7 +224,7 @@ def cyclic(size):
     return text + " " * (size - len(text))
 
 
-KINDS = [comment, name, properties, variables, statements, calls, arrays, loops, parentheses, classes, grown_classes, last_class, used_classes, objects, blocks, replaced, solves, uniques, softs, disables, members, searched_members, cyclic]
+KINDS = [comment, name, properties, variables, statements, calls, arrays, loops, parentheses, classes, grown_classes, last_class, used_classes, made_classes, objects, blocks, replaced, solves, uniques, softs, disables, members, searched_members, cyclic]
 
 
 def text_of(kind, size):

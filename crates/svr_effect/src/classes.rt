@@ -1,23 +1,23 @@
 // The classes of a script, each with what it inherits.
 
-ghost use Rattle.std.specs.Prelude.{◌≡◌, true, false, ℕ, map, length, replicate, slice_index_or, slice_set, IfOk};
+ghost use Rattle.std.specs.Prelude.{◌≡◌, ℕ, map, length, slice_index_or, IfOk};
 ghost use Rattle.std.specs.List.{range_with_len};
 ghost use Rattle.svr_typed.specs.ClassTerm.{flat_term, class_terms};
 ghost use Rattle.svr_typed.specs.StmtTerm.{design_term};
 ghost use Rattle.svr_flat.specs.Flat.{no_class};
 ghost use Rattle.svr_flat.specs.Known.{AreKnown};
-ghost use Rattle.svr_world.specs.World.{kind_class, declared_classes};
 ghost use Rattle.svr_script.specs.Statement.{flat_of_var};
-ghost use Rattle.svr_effect.specs.Inherited.{AreClasses, KeepsWanted, wanted_class, wanted_by};
+ghost use Rattle.svr_effect.specs.Inherited.{AreClasses, IsNamed, KeepsWanted, wanted_class};
 
 use crate::declared::class_of_var;
 use crate::memory::pushed;
+use crate::wanted::{is_wanted, want, wanted_classes};
 use sqlite_items::Items;
 use std::alloc::Global;
 use svr_flat::{Known, flatten_over};
-use svr_typed::{Design, FlatClass, NoMemory, TClass, TVar, VarKind};
+use svr_typed::{Design, FlatClass, NoMemory, TClass};
 
-/// The classes of a script by number, those that a variable has with what they inherit, and those that two of them are made from in different ways; one of which nothing is declared in place of those that there are not. What a class inherits is made for no other, since a chain of classes that all add something inherits more than it has.
+/// The classes of a script by number, those of the object variables that a statement names with what they inherit, and those that two of them are made from in different ways; one of which nothing is declared in place of those that there are not. What a class inherits is made for no other, since a chain of classes that all add something inherits more than it has.
 #[derive(Drop)]
 pub struct Classes {
     pub flats: Items<FlatClass>,
@@ -39,54 +39,6 @@ fn no_class(alloc: Global) -> FlatClass
     ensures { flat_term result ≡ no_class }
 {
     FlatClass::new(Items::new(alloc), Items::new(alloc))
-}
-
-/// The class of a variable, 0 for one that holds no object.
-fn class_of(var: &TVar) -> u32
-    ensures { result ≡ kind_class var.now.kind }
-{
-    match var.kind {
-        VarKind::Number(_) => 0,
-        VarKind::Object(class) => class,
-    }
-}
-
-/// A class is wanted from now on.
-fn want(wanted: &mut Vec<bool>, class: u32)
-    ensures { wanted.new.items ≡ slice_set wanted.old.items class true }
-{
-    if let Some(place) = wanted.get_mut(class as usize) {
-        *place = true;
-    }
-}
-
-/// So are those of variables.
-fn want_all(wanted: &mut Vec<bool>, vars: &[TVar])
-    ensures { wanted.new.items ≡ wanted_by wanted.old.items (declared_classes vars.now) }
-{
-    for var in vars {
-        want(wanted, class_of(var));
-    }
-}
-
-/// For each of so many classes whether a variable has it.
-fn wanted_classes(alloc: Global, vars: &[TVar], count: usize) -> Result<Vec<bool>, NoMemory>
-    ensures { IfOk result (λ wanted. wanted.items ≡ wanted_by (slice_set (replicate count false) 0 true) (declared_classes vars.now)) }
-{
-    let mut wanted = vec![in alloc; false; count]?;
-    want(&mut wanted, 0);
-    want_all(&mut wanted, vars);
-    Ok(wanted)
-}
-
-/// Whether a class is wanted.
-fn is_wanted(wanted: &[bool], class: u32) -> bool
-    ensures { result ≡ slice_index_or wanted.now class true }
-{
-    match wanted.get(class as usize) {
-        Some(wanted) => *wanted,
-        None => true,
-    }
 }
 
 /// The base of a class from which something is made has something made from it, and is wanted if it had so before.
@@ -165,7 +117,7 @@ impl Classes {
     pub fn new(alloc: Global, design: &Design) -> Result<Classes, NoMemory>
         ensures { IfOk result (λ x. AreClasses (design_term design.now) x) }
     {
-        let wanted = wanted_classes(alloc, design.vars.as_slice(), design.classes.len())?;
+        let wanted = wanted_classes(alloc, design)?;
         let marks = with_forks(alloc, design.classes.as_slice(), wanted)?;
         let flats = flat_classes(alloc, design, &marks)?;
         let none = no_class(alloc);
@@ -182,9 +134,10 @@ impl Classes {
         }
     }
 
-    /// The class of an object variable.
+    /// The class of an object variable that some statement of the design names.
     pub fn of_var(&self, design: &Design, object: u32) -> &FlatClass
-        requires { AreClasses (design_term design.now) self.now }
+        requires classes { AreClasses (design_term design.now) self.now }
+        requires named { IsNamed (design_term design.now) object }
         ensures { flat_term result.now ≡ flat_of_var (design_term design.now) object }
     {
         self.at(class_of_var(design, object))

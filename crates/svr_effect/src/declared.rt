@@ -2,7 +2,7 @@
 
 ghost use Rattle.std.specs.Prelude.{◌≡◌};
 ghost use Rattle.svr_typed.specs.StmtTerm.{design_term};
-ghost use Rattle.svr_effect.specs.Inherited.{AreClasses};
+ghost use Rattle.svr_effect.specs.Inherited.{AreClasses, IsNamed};
 ghost use Rattle.svr_script.specs.Statement as spec;
 
 use crate::classes::Classes;
@@ -34,9 +34,10 @@ pub(crate) fn width_of_var(design: &Design, var: u32) -> u8
     }
 }
 
-/// The width of a property of an object variable, or of its elements; 0 where there is none.
+/// The width of a property of an object variable that some statement of the design names, or of its elements; 0 where there is none.
 pub(crate) fn width_of_prop(design: &Design, classes: &Classes, object: u32, prop: u32) -> u8
-    requires { AreClasses (design_term design.now) classes.now }
+    requires classes { AreClasses (design_term design.now) classes.now }
+    requires named { IsNamed (design_term design.now) object }
     ensures { result ≡ spec.width_of_prop (design_term design.now) object prop }
 {
     let flat = classes.of_var(design, object);

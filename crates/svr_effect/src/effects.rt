@@ -1,6 +1,6 @@
 // What a statement does.
 
-ghost use Rattle.std.specs.Prelude.{◌≡◌, ◌≤◌, ◌∷◌, [], None, Some, replicate, IfOk, OnOk, OnErr};
+ghost use Rattle.std.specs.Prelude.{◌≡◌, ◌≤◌, ◌∷◌, [], None, Some, replicate, IfSome, IfOk, OnOk, OnErr};
 ghost use Rattle.svr_limits.specs.declared.limit.TheConstants.{ELEMENT_LIMIT};
 ghost use Rattle.svr_typed.specs.ExprTerm.{expr_term, expr_terms};
 ghost use Rattle.svr_typed.specs.StmtTerm.{stmt_term, design_term};
@@ -8,7 +8,7 @@ ghost use Rattle.svr_world.specs.World.{IsMade, with_numbers, with_script, with_
 ghost use Rattle.svr_world.specs.Fits.{IsShort};
 ghost use Rattle.svr_script.specs.Numbered.{assigned};
 ghost use Rattle.svr_script.specs.Statement.{all_assigned, effect, is_on, written};
-ghost use Rattle.svr_effect.specs.Inherited.{AreClasses};
+ghost use Rattle.svr_effect.specs.Inherited.{AreClasses, IsNamed, named_by};
 ghost use Rattle.svr_effect.specs.Objects.{IsWhole, placed_at};
 ghost use Rattle.svr_effect.specs.Stands.{AllCanBe, CanBeComputed, IsWide, Stands, many};
 
@@ -196,7 +196,7 @@ fn set_block_mode(
     Ok(())
 }
 
-/// Executes a statement that is no call; a `repeat` and a list do nothing themselves. The classes are those of the design.
+/// Executes a statement that is no call; a `repeat` and a list do nothing themselves. The classes are those of the design, and an object variable that it names is one that some statement of the design names.
 pub fn execute(
     alloc: Global,
     design: &Design,
@@ -205,6 +205,7 @@ pub fn execute(
     stmt: &TStmt,
 ) -> Result<(), NoMemory>
     requires classes { AreClasses (design_term design.now) classes.now }
+    requires named { IfSome (named_by (stmt_term stmt.now)) (IsNamed (design_term design.now)) }
     requires whole { IsWhole world.old }
     requires stands { Stands (design_term design.now) world.old (stmt_term stmt.now) }
     ensures effect { OnOk result (world.new ≡ effect (design_term design.now) (stmt_term stmt.now) world.old) }

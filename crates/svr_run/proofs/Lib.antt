@@ -4,4 +4,5 @@ pub mod Fits
 pub mod Sampling
 pub mod Walking
 pub mod Executed
+pub mod Naming
 pub mod Renewed

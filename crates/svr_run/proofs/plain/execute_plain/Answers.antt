@@ -13,7 +13,19 @@ use Rattle.svr_run.proofs.Written.{failed_as, tells_nothing}
 use Rattle.svr_run.proofs.Sampling.{none_taken}
 use Rattle.svr_run.proofs.Walking.{can_execute, is_whole, next_of, one_step, goes_by, breaks_by, halts_here}
 use Rattle.svr_run.proofs.Executed.{plain_order, plain_stands, plain_executes}
+use Rattle.svr_run.proofs.Naming.{next_named}
 use Rattle.svr_run.proofs.plain.execute_plain.Goals as goal
+
+pub execute-requires-clause-named : goal.execute-requires-clause-named
+execute-requires-clause-named g c =
+    let wa = watcher g.W.Watch.content g.W.Watch.step g.W.Watch.left in
+    let d = design_term c.args.script.now.design.now in
+    let opts = c.args.script.now.opts in
+    let extra = c.args.script.now.extra in
+    let x = stmt_term c.args.stmt.now in
+    let p = c.args.run.now in
+    let now = c.requires.before.0 in
+    next_named wa d opts extra x p now (next_of wa d opts extra x (in_order x) p now (plain_order x c.requires.plain) c.requires.going c.requires.before.1)
 
 pub execute-requires-clause-whole : goal.execute-requires-clause-whole
 execute-requires-clause-whole g c =

@@ -13,6 +13,7 @@ use Rattle.svr_run.specs.Reached.{IsBefore, IsNext}
 use Rattle.svr_run.proofs.Written.{failed_as}
 use Rattle.svr_run.proofs.Walking.{can_execute, next_of, before_first, before_row, breaks_first, breaks_row, breaks_by, breaks_as, goes_row, goes_nowhere, halts_here}
 use Rattle.svr_run.proofs.Executed.{all_turns, next_turn}
+use Rattle.svr_run.proofs.Naming.{next_named}
 use Rattle.svr_run.proofs.Renewed.{first_frame}
 use Rattle.svr_run.proofs.turns.repeat_call.Goals as goal
 
@@ -27,6 +28,22 @@ returns-then-count-eq0-clause-goes g c =
     let s = sinks (g.K.Sink.written c.args.out.now) (g.K.Sink.faults c.args.out.now) (g.J.Sink.written c.args.journal.now) (g.J.Sink.faults c.args.journal.now) in
     let none : times c.args.count xs ≡ [] = ap (λ (k : ℕ). times k xs) c.if-count-eq0.true in
     goes_row wa d opts extra [] (times c.args.count xs) p p s s (sym none) (goes_nowhere wa d opts extra p s)
+
+pub of_var-flat-requires-clause-named : goal.of_var-flat-requires-clause-named
+of_var-flat-requires-clause-named g c =
+    let wa = watcher g.W.Watch.content g.W.Watch.step g.W.Watch.left in
+    let d = design_term c.args.script.now.design.now in
+    let opts = c.args.script.now.opts in
+    let extra = c.args.script.now.extra in
+    let ct = call_term c.args.call.now in
+    let xs = call ct ∷ [] in
+    let n = c.args.count in
+    let ys = times (n - (0 + 1)) xs in
+    let p = c.args.run.now in
+    let s = sinks (g.K.Sink.written c.args.out.now) (g.K.Sink.faults c.args.out.now) (g.J.Sink.written c.args.journal.now) (g.J.Sink.faults c.args.journal.now) in
+    let split : times n xs ≡ xs ++ ys = all_turns n xs ∙ next_turn n 0 xs (omega (arith, c.if-count-eq0.false)) in
+    let first : IsBefore wa d opts extra xs p s = before_first wa d opts extra xs ys p p s s (before_row wa d opts extra (times n xs) (xs ++ ys) p s split c.requires.before) in
+    next_named wa d opts extra (call ct) p s (next_of wa d opts extra (call ct) xs p s refl c.requires.going first)
 
 pub make_frame-requires : goal.make_frame-requires
 make_frame-requires g c =
