@@ -1,5 +1,6 @@
 -- Each answer is the step of its call.
-use Rattle.std.proofs.Common.{◌≡◌, ◌<◌, ◌≤◌, ◌+◌, ℕ, Bool, true, false, refl, sym, ◌∙◌, ap, subst, List, [], ◌∷◌, ◌++◌, map, length, take, ◌-◌, Option, None, Some, arith}
+use Rattle.std.proofs.Common.{◌≡◌, ◌<◌, ◌≤◌, ◌+◌, ℕ, Bool, true, false, refl, sym, ◌∙◌, ap, subst, List, [], ◌∷◌, ◌++◌, map, length, take, ◌-◌, Option, None, Some, Result, Ok, arith}
+use Rattle.std.specs.Prelude.{IfOk}
 use Rattle.std.specs.List.{range_with_len}
 use Rattle.std.proofs.lemmas.List.{length-append}
 use Rattle.std.proofs.lemmas.List.Elements.{All-nil}
@@ -42,6 +43,10 @@ use Rattle.svr_randomize.proofs.Named.{got_last, cycles_longer, hard_alone}
 -- an outcome, with what the object is to have
 abbrev pub given : Outcome → List Replacement → List Replacement → Answer
 given o values used = record { outcome = o; change = Some (record { values = values; used = used }) }
+
+-- what holds of a value, where it is there
+pub told_of : {A E : Type 0} (x : Result A E) (P : A → Type 0) (a : A) → IfOk x P → x ≡ Ok a → P a
+told_of {A = A} {E = E} x P a h e = subst (λ (y : Result A E). IfOk y P) e h
 
 -- ---- a phase that weighs too much, and answers of the phase of cyclic values
 
@@ -195,6 +200,32 @@ module _ (c : Call) (chosen : Chosen) (is : IsChosen c chosen) where
       reached = reached;
       not_preferred = ap (λ (a : Reading). meets_all a (hard_of c.frame Whole sizes ++ live_of c.frame Whole sizes)) (sym wish) ∙ fails;
     }
+
+    -- values that a search found, where no soft item is dropped
+    pub one_alone : AsksValues c is.choices sizes → (e : Encoded) (m : Met) → IsMet c.frame sizes chosen.values (length chosen.encodings) e m → m.dropped ≡ [] → (a : Reading) → IsSolution c is.choices sizes m.fates.items a
+        → (r : Answer) → r ≡ record { outcome = One m.kept [] chosen.cycles chosen.encodings; change = Some (record { values = numbers_read sizes a (random_props c.frame); used = chosen.used }) } → IsAnswer c r
+    one_alone asking e m met none a solves r same =
+        subst (IsAnswer c) (sym same)
+        (record {
+          steps = λ w o. (
+            record { values = numbers_read sizes a (random_props c.frame); used = chosen.used },
+            record {
+              choices = is.choices;
+              sizes = sizes;
+              reached = asking.reached;
+              fates = m.fates.items;
+              gives = as_solved asking.not_preferred a solves refl;
+              uses = is.uses;
+              kept_ranks = met.kept;
+              dropped_ranks = ap (map (λ (d : Dropped). d.rank)) (sym none) ∙ met.dropped;
+              drops_proved = tt;
+              cycles_proved = is.proved;
+            },
+            refl,
+          );
+          few = omega (arith, is.few);
+          shared = ((0, cycles_first c chosen.encodings is.few (renewals [] is.choices) chosen.cycles is.proved), (0, All-nil _));
+        })
 
     module _ (asking : AsksValues c is.choices sizes) (e : Encoded) where
       -- the encoding stands behind those of the cyclic values

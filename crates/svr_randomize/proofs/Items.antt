@@ -56,6 +56,15 @@ module _ (f : FrameTerm) (ns : List ℕ) (sound : IsSound f) (fit : SizesFit f n
   all_hold_is hard soft h s =
       (λ i. hard_hold hard h i && soft_hold soft s i) ∙ sym (list_all-append (is_true a) (hard_of f Whole ns) (live_of f Whole ns))
 
+  -- all in one list
+  pub clauses_hold : (xs : List TExpr) → map expr_term xs ≡ closed_at f ns (hard_of f Whole ns ++ live_of f Whole ns) → list_all (λ e. holds a e) (map expr_term xs) ≡ meets_all a (hard_of f Whole ns ++ live_of f Whole ns)
+  clauses_hold xs e =
+      ap (list_all (λ x. holds a x)) e ∙ mapped (λ x. holds a x) (closed_of (state_at f ns)) (hard_of f Whole ns ++ live_of f Whole ns)
+      ∙ list_all-append (λ o. holds a (closed_of (state_at f ns) o)) (hard_of f Whole ns) (live_of f Whole ns)
+      ∙ (λ i. same_all (λ o. holds a (closed_of (state_at f ns) o)) (is_true a) (hard_of f Whole ns) (hard_truths f ns sound fit Whole fixed a is) i
+      && same_all (λ o. holds a (closed_of (state_at f ns) o)) (is_true a) (live_of f Whole ns) (live_truths f ns sound fit Whole fixed a is) i)
+      ∙ sym (list_all-append (is_true a) (hard_of f Whole ns) (live_of f Whole ns))
+
 -- the hard items, and the soft ones behind them, in one list
 pub items_stand : (f : FrameTerm) (ns : List ℕ) (all hard soft : List TExpr) → map expr_term all ≡ map expr_term hard ++ map expr_term soft → map expr_term hard ≡ closed_at f ns (hard_of f Whole ns) → map expr_term soft ≡ closed_at f ns (live_of f Whole ns)
     → map expr_term all ≡ closed_at f ns (hard_of f Whole ns ++ live_of f Whole ns)

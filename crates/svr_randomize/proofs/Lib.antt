@@ -3,3 +3,8 @@ pub mod Named
 pub mod Items
 pub mod Changes
 pub mod Answered
+pub mod Rows
+pub mod Unknowns
+pub mod Disables
+pub mod Readings
+pub mod Keeping

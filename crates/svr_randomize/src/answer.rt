@@ -1,6 +1,6 @@
 // What a call answers, and what it changes.
 
-ghost use Rattle.std.specs.Prelude.{◌≡◌, ◌≤◌, ◌∷◌, ◌++◌, [], None, Some, length, IfOk};
+ghost use Rattle.std.specs.Prelude.{◌≡◌, ◌≤◌, ◌∷◌, ◌++◌, [], None, Some, Ok, length, IfOk};
 ghost use Rattle.svr_limits.specs.declared.limit.TheConstants.{PROPERTY_LIMIT};
 ghost use Rattle.svr_eval.specs.Reading.{reading_of};
 ghost use Rattle.svr_frame.specs.declared.part.Part.TheVariants.{Randc, Sizes, All as Whole};
@@ -9,6 +9,7 @@ ghost use Rattle.svr_call.specs.declared.outcome.Outcome.TheVariants.{One, Zero,
 ghost use Rattle.svr_call.specs.Call.{numbers_read, random_props};
 ghost use Rattle.svr_randomize.specs.Placed.{at_first};
 
+use crate::kept::Form;
 use crate::memory::NoMemory;
 use sqlite_items::Items;
 use std::alloc::Global;
@@ -27,6 +28,45 @@ use svr_world::Change;
 pub struct Answer {
     pub outcome: Outcome,
     pub change: Option<Change>,
+}
+
+/// What a call answers, and its items where the answer does not carry them along.
+#[derive(Drop)]
+pub(crate) struct Decided {
+    pub(crate) answer: Answer,
+    pub(crate) left: Option<Form>,
+}
+
+/// An answer that leaves these items.
+pub(crate) fn leaving(answer: Result<Answer, NoMemory>, items: Form) -> Result<Decided, NoMemory>
+    ensures answer { IfOk result (λ r. answer ≡ Ok r.answer) }
+    ensures left { IfOk result (λ r. r.left ≡ Some items) }
+{
+    match answer {
+        Err(fault) => Err(let_go(items, fault)),
+        Ok(answer) => Ok(Decided {
+            answer,
+            left: Some(items),
+        }),
+    }
+}
+
+/// An answer that leaves no items.
+pub(crate) fn leaving_none(answer: Result<Answer, NoMemory>) -> Result<Decided, NoMemory>
+    ensures answer { IfOk result (λ r. answer ≡ Ok r.answer) }
+    ensures left { IfOk result (λ r. r.left ≡ None) }
+{
+    match answer {
+        Err(fault) => Err(fault),
+        Ok(answer) => Ok(Decided { answer, left: None }),
+    }
+}
+
+/// The fault; a value that is at hand is let go.
+fn let_go<T: Drop>(_held: T, fault: NoMemory) -> NoMemory
+    ensures { result ≡ fault }
+{
+    fault
 }
 
 /// An answer that changes nothing.

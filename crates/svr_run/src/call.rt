@@ -6,6 +6,7 @@ ghost use Rattle.svr_typed.specs.StmtTerm.{call_term, design_term};
 ghost use Rattle.svr_frame.specs.Frame.{frame_term};
 ghost use Rattle.svr_frame.specs.Sound.{IsSound};
 ghost use Rattle.svr_call.specs.Items.{is_one};
+ghost use Rattle.svr_randomize.specs.Kept.{IsKept};
 ghost use Rattle.svr_derived.specs.Shown.{AreShown};
 ghost use Rattle.svr_script.specs.Statement.{flat_of_var, frame_in};
 ghost use Rattle.svr_script.specs.Run as spec;
@@ -28,7 +29,7 @@ use svr_call::Outcome;
 use svr_edge::Sink;
 use svr_effect::class_of_var;
 use svr_frame::Frame;
-use svr_randomize::randomize;
+use svr_randomize::{Kept, randomize_again};
 use svr_typed::CallStmt;
 use svr_world::Watch;
 
@@ -120,13 +121,14 @@ fn answered<K: Sink, J: Sink>(
     told
 }
 
-/// The answer of a call in its frame. The watch takes its sample before the answer is told. No mode of the object is another one afterwards.
+/// The answer of a call in its frame, with what earlier calls there have kept. The watch takes its sample before the answer is told. No mode of the object is another one afterwards.
 pub(crate) fn answer<K: Sink, J: Sink, W: Watch>(
     alloc: Global,
     script: &Script<'_>,
     run: &mut Watched<W>,
     call: &CallStmt,
     frame: &Frame,
+    kept: &mut Kept,
     out: &mut K,
     journal: &mut J,
 ) -> Result<(), Stop>
@@ -137,22 +139,25 @@ pub(crate) fn answer<K: Sink, J: Sink, W: Watch>(
         (sinks (K.written out.old) (K.faults out.old) (J.written journal.old) (J.faults journal.old)) }
     requires framed { frame_term frame.now ≡ frame_in (design_term script.now.design.now) run.old.progress.world (call_term call.now) }
     requires sound { IsSound (frame_term frame.now) }
+    requires kept { IsKept (frame_term frame.now) kept.old }
     ensures steps { OnOk result (Steps (watcher W.content W.step W.left) (design_term script.now.design.now) script.now.opts script.now.extra (term.call (call_term call.now)) run.old
         (sinks (K.written out.old) (K.faults out.old) (J.written journal.old) (J.faults journal.old)) run.new
         (sinks (K.written out.new) (K.faults out.new) (J.written journal.new) (J.faults journal.new))) }
     ensures modes { OnOk result (SameModes call.now.object run.old.progress.world run.new.progress.world) }
+    ensures kept { OnOk result (IsKept (frame_term frame.now) kept.new) }
     ensures halts { IfErr result (λ why. Halts (watcher W.content W.step W.left) (design_term script.now.design.now) script.now.opts script.now.extra (term.call (call_term call.now)) run.old
         (sinks (K.written out.old) (K.faults out.old) (J.written journal.old) (J.faults journal.old)) why
         (sinks (K.written out.new) (K.faults out.new) (J.written journal.new) (J.faults journal.new))) }
 {
     let number = run.progress.calls + 1;
-    let outcome = randomize(
+    let outcome = randomize_again(
         alloc,
         &mut run.progress.world,
         call.object,
         frame,
         number,
         script.opts,
+        kept,
     )?;
     let class = class_of_var(script.design, call.object);
     let values = run.progress.world.values(call.object);

@@ -1,4 +1,4 @@
-// A call, and one that is repeated (IEEE 1800-2017, 12.7.3 and 18.6). Its frame is made once: between two turns nothing of it changes but the state.
+// A call, and one that is repeated (IEEE 1800-2017, 12.7.3 and 18.6). Its frame is made once: between two turns nothing of it changes but the state. The items of its last phase, closed or as clauses, are kept from turn to turn, where they read the same numbers.
 
 ghost use Rattle.std.specs.Prelude.{◌≡◌, ◌∷◌, [], false, OnOk, IfErr, IfSome};
 ghost use Rattle.svr_typed.specs.StmtTerm as term;
@@ -6,6 +6,7 @@ ghost use Rattle.svr_typed.specs.StmtTerm.{call_term, design_term, stmt_term};
 ghost use Rattle.svr_effect.specs.Inherited.{AreClasses};
 ghost use Rattle.svr_frame.specs.Frame.{frame_term};
 ghost use Rattle.svr_script.specs.Statement.{times};
+ghost use Rattle.svr_randomize.specs.Kept.{IsKept};
 ghost use Rattle.svr_run.specs.CanRun.{AreAllowed, CanRun};
 ghost use Rattle.svr_run.specs.Telling.{sinks};
 ghost use Rattle.svr_run.specs.Watching.{watcher};
@@ -20,6 +21,7 @@ use std::alloc::Global;
 use svr_edge::Sink;
 use svr_frame::Frame;
 use svr_frame_of::{make_frame, renew};
+use svr_randomize::Kept;
 use svr_typed::{CallStmt, TStmt};
 use svr_world::Watch;
 
@@ -41,22 +43,25 @@ pub(crate) fn called(stmt: &TStmt) -> Option<&CallStmt>
     }
 }
 
-/// One turn, but none behind a limit: the call is made in a frame that it had before.
+/// One turn, but none behind a limit: the call is made in a frame that it had before, with what was kept there.
 fn one_turn<K: Sink, J: Sink, W: Watch>(
     alloc: Global,
     script: &Script<'_>,
     run: &mut Watched<W>,
     call: &CallStmt,
     frame: &mut Frame,
+    kept: &mut Kept,
     out: &mut K,
     journal: &mut J,
 ) -> Result<(), Stop>
     requires allowed { AreAllowed script.now.opts }
     requires can_run { CanRun (design_term script.now.design.now) script.now.opts }
     requires framed { IsFrameOf (design_term script.now.design.now) run.old.progress.world (call_term call.now) (frame_term frame.old) }
+    requires kept { IsKept (frame_term frame.old) kept.old }
     requires before { IsBefore (watcher W.content W.step W.left) (design_term script.now.design.now) script.now.opts script.now.extra (term.call (call_term call.now) ∷ []) run.old
         (sinks (K.written out.old) (K.faults out.old) (J.written journal.old) (J.faults journal.old)) }
     ensures framed { OnOk result (IsFrameOf (design_term script.now.design.now) run.new.progress.world (call_term call.now) (frame_term frame.new)) }
+    ensures kept { OnOk result (IsKept (frame_term frame.new) kept.new) }
     ensures goes { OnOk result (Goes (watcher W.content W.step W.left) (design_term script.now.design.now) script.now.opts script.now.extra (term.call (call_term call.now) ∷ []) run.old
         (sinks (K.written out.old) (K.faults out.old) (J.written journal.old) (J.faults journal.old)) run.new
         (sinks (K.written out.new) (K.faults out.new) (J.written journal.new) (J.faults journal.new))) }
@@ -68,7 +73,7 @@ fn one_turn<K: Sink, J: Sink, W: Watch>(
         return Ok(());
     }
     renew(alloc, frame, &run.progress.world, call.object)?;
-    answer(alloc, script, run, call, &*frame, out, journal)
+    answer(alloc, script, run, call, &*frame, kept, out, journal)
 }
 
 /// So many turns.
@@ -79,12 +84,14 @@ fn take_turns<K: Sink, J: Sink, W: Watch>(
     count: u32,
     call: &CallStmt,
     frame: &mut Frame,
+    kept: &mut Kept,
     out: &mut K,
     journal: &mut J,
 ) -> Result<(), Stop>
     requires allowed { AreAllowed script.now.opts }
     requires can_run { CanRun (design_term script.now.design.now) script.now.opts }
     requires framed { IsFrameOf (design_term script.now.design.now) run.old.progress.world (call_term call.now) (frame_term frame.old) }
+    requires kept { IsKept (frame_term frame.old) kept.old }
     requires before { IsBefore (watcher W.content W.step W.left) (design_term script.now.design.now) script.now.opts script.now.extra (times count (term.call (call_term call.now) ∷ [])) run.old
         (sinks (K.written out.old) (K.faults out.old) (J.written journal.old) (J.faults journal.old)) }
     ensures goes { OnOk result (Goes (watcher W.content W.step W.left) (design_term script.now.design.now) script.now.opts script.now.extra (times count (term.call (call_term call.now) ∷ [])) run.old
@@ -95,7 +102,7 @@ fn take_turns<K: Sink, J: Sink, W: Watch>(
         (sinks (K.written out.new) (K.faults out.new) (J.written journal.new) (J.faults journal.new))) }
 {
     for _time in 0..count {
-        one_turn(alloc, script, run, call, frame, out, journal)?;
+        one_turn(alloc, script, run, call, frame, kept, out, journal)?;
     }
     Ok(())
 }
@@ -128,7 +135,11 @@ pub(crate) fn repeat_call<K: Sink, J: Sink, W: Watch>(
     }
     let flat = script.classes.of_var(script.design, call.object);
     let mut frame = make_frame(alloc, script.design, flat, &run.progress.world, call)?;
-    let told = take_turns(alloc, script, run, count, call, &mut frame, out, journal);
+    let mut kept = Kept::new();
+    let told = take_turns(
+        alloc, script, run, count, call, &mut frame, &mut kept, out, journal,
+    );
+    drop(kept);
     drop(frame);
     told
 }

@@ -12,7 +12,8 @@ use Rattle.svr_cyclic.specs.declared.choose.Chosen.{Chosen}
 use Rattle.svr_question.specs.Ends.{IsMet}
 use Rattle.svr_randomize.specs.declared.answer.Answer.{Answer}
 use Rattle.svr_randomize.specs.Answers.{FitsIfChanged}
-use Rattle.svr_randomize.proofs.Answered.{given, one_solved}
+use Rattle.svr_randomize.specs.Kept.{IsLeft}
+use Rattle.svr_randomize.proofs.Answered.{one_alone, one_solved}
 use Rattle.svr_randomize.proofs.Changes.{numbers_fit}
 use Rattle.svr_randomize.proofs.asked.met_answer.Goals as goal
 
@@ -28,27 +29,54 @@ solution-requires-clause-met c = (
 pub solution-requires-clause-wanted : goal.solution-requires-clause-wanted
 solution-requires-clause-wanted c = subst (λ (fixed : List (ℕ × ℕ)). IsAssignment (frame_term c.args.frame.now) Whole c.args.sizes.now fixed (reading_of c.args.wanted.now)) (sym c.as_slice-values.ensures) c.requires.wish
 
-pub one-requires : goal.one-requires
-one-requires c = c.requires.sound.properties
+pub answer_alone-requires : goal.answer_alone-requires
+answer_alone-requires c = c.requires.sound.properties
+
+pub answer_with_clauses-requires : goal.answer_with_clauses-requires
+answer_with_clauses-requires c = c.requires.sound.properties
+
+pub returns-then-is_empty-clause-answer : goal.returns-then-is_empty-clause-answer
+returns-then-is_empty-clause-answer c =
+    let f = frame_term c.args.frame.now in
+    IfOk-weaker c.answer_alone.result _ _
+    (λ r same budget used words cap le is wish asks.
+    one_alone (call_in f used words budget cap) c.args.chosen is c.args.sizes.now asks c.args.encoding c.args.met c.requires.met (c.is_empty.ensures.0 c.if-is_empty.true) (reading_of c.in_ok-solved.solved)
+    (c.in_ok-solved.ensures.solves used words budget cap is.choices le (c.as_slice-values.ensures ∙ is.chosen) wish) r.answer same)
+    c.answer_alone.ensures.answer
+
+pub returns-then-is_empty-clause-fits : goal.returns-then-is_empty-clause-fits
+returns-then-is_empty-clause-fits c =
+    let f = frame_term c.args.frame.now in
+    let a = reading_of c.in_ok-solved.solved in
+    let fits = subst (λ (fixed : List (ℕ × ℕ)). IsAssignment (frame_term c.args.frame.now) Whole c.args.sizes.now fixed (reading_of c.in_ok-solved.solved)) c.as_slice-values.ensures c.in_ok-solved.ensures.fits in
+    IfOk-weaker c.answer_alone.result _ _
+    (λ r same. subst (λ (x : Answer). FitsIfChanged (frame_term c.args.frame.now).class x.change) (sym same)
+    (numbers_fit f c.args.sizes.now c.requires.sound c.requires.fit c.args.chosen.values a fits c.args.chosen.used c.requires.used))
+    c.answer_alone.ensures.answer
+
+pub returns-then-is_empty-clause-left : goal.returns-then-is_empty-clause-left
+returns-then-is_empty-clause-left c =
+    IfOk-weaker c.answer_alone.result _ _ (λ r left. subst (IsLeft (frame_term c.args.frame.now) c.args.sizes.now) (sym left) (c.requires.hard, c.requires.encodes)) c.answer_alone.ensures.left
 
 pub returns-clause-answer : goal.returns-clause-answer
 returns-clause-answer c =
     let f = frame_term c.args.frame.now in
-    let a = reading_of c.in_ok-solved.solved in
-    let more = ap (λ (x : Chosen). given (One c.args.met.kept c.args.met.dropped x.cycles x.encodings) (numbers_read c.args.sizes.now a (random_props f)) x.used) c.in_ok-carried.ensures in
-    IfOk-weaker c.one.result _ _
+    IfOk-weaker c.answer_with_clauses.result _ _
     (λ r same budget used words cap le is wish asks.
     one_solved (call_in f used words budget cap) c.args.chosen is c.args.sizes.now asks c.args.encoding c.args.met c.requires.met (reading_of c.in_ok-solved.solved)
-    (c.in_ok-solved.ensures.solves used words budget cap is.choices le (c.as_slice-values.ensures ∙ is.chosen) wish) r (same ∙ more))
-    c.one.ensures
+    (c.in_ok-solved.ensures.solves used words budget cap is.choices le (c.as_slice-values.ensures ∙ is.chosen) wish) r.answer same)
+    c.answer_with_clauses.ensures.answer
 
 pub returns-clause-fits : goal.returns-clause-fits
 returns-clause-fits c =
     let f = frame_term c.args.frame.now in
     let a = reading_of c.in_ok-solved.solved in
     let fits = subst (λ (fixed : List (ℕ × ℕ)). IsAssignment (frame_term c.args.frame.now) Whole c.args.sizes.now fixed (reading_of c.in_ok-solved.solved)) c.as_slice-values.ensures c.in_ok-solved.ensures.fits in
-    let more = ap (λ (x : Chosen). given (One c.args.met.kept c.args.met.dropped x.cycles x.encodings) (numbers_read c.args.sizes.now a (random_props f)) x.used) c.in_ok-carried.ensures in
-    IfOk-weaker c.one.result _ _
-    (λ r same. subst (λ (x : Answer). FitsIfChanged (frame_term c.args.frame.now).class x.change) (sym (same ∙ more))
+    IfOk-weaker c.answer_with_clauses.result _ _
+    (λ r same. subst (λ (x : Answer). FitsIfChanged (frame_term c.args.frame.now).class x.change) (sym same)
     (numbers_fit f c.args.sizes.now c.requires.sound c.requires.fit c.args.chosen.values a fits c.args.chosen.used c.requires.used))
-    c.one.ensures
+    c.answer_with_clauses.ensures.answer
+
+pub returns-clause-left : goal.returns-clause-left
+returns-clause-left c =
+    IfOk-weaker c.answer_with_clauses.result _ _ (λ r left. subst (IsLeft (frame_term c.args.frame.now) c.args.sizes.now) (sym left) tt) c.answer_with_clauses.ensures.left

@@ -1,5 +1,4 @@
 use Rattle.std.proofs.Common.{◌≡◌, ℕ, List, sym, ap, subst, ◌∙◌}
-use Rattle.std.proofs.lemmas.Result.{IfOk-weaker}
 use Rattle.svr_eval.specs.Reading.{Reading, reading_of}
 use Rattle.svr_frame.specs.declared.part.Part.TheVariants.{All as Whole}
 use Rattle.svr_frame.specs.Frame.{frame_term}
@@ -7,6 +6,7 @@ use Rattle.svr_frame.specs.Satisfaction.{IsAssignment}
 use Rattle.svr_draw.specs.Words.{generator, word_of}
 use Rattle.svr_phase.specs.Sizes.{preferred_with}
 use Rattle.svr_phase.proofs.ChosenValues.{with_cyclic_is}
+use Rattle.svr_randomize.proofs.Keeping.{kept_behind}
 use Rattle.svr_randomize.proofs.values.values_answer.Goals as goal
 
 pub decided-requires-clause-wish : goal.decided-requires-clause-wish
@@ -17,11 +17,17 @@ decided-requires-clause-wish c =
     subst (IsAssignment f Whole c.args.sizes.now c.args.chosen.values)
     (sym (c.in_ok-preferred.ensures ∙ ap (preferred_with f Whole c.args.sizes.now c.args.opts.size_cap words) c.as_slice-values.ensures)) is
 
+pub decided-requires-clause-items : goal.decided-requires-clause-items
+decided-requires-clause-items c = c.in_ok-last.ensures.items
+
 pub returns-clause-answer : goal.returns-clause-answer
 returns-clause-answer c =
     let f = frame_term c.args.frame.now in
     let words = word_of (generator c.args.opts.seed c.args.number) in
-    IfOk-weaker c.decided.result _ _
-    (λ r h used is reached. h used words c.args.opts.size_cap c.requires.cap is
-    (c.in_ok-preferred.ensures ∙ ap (preferred_with f Whole c.args.sizes.now c.args.opts.size_cap words) (c.as_slice-values.ensures ∙ is.chosen)) reached)
-    c.decided.ensures.answer
+    λ used is reached. c.in_ok-found.ensures.answer used words c.args.opts.size_cap c.requires.cap is
+    (c.in_ok-preferred.ensures ∙ ap (preferred_with f Whole c.args.sizes.now c.args.opts.size_cap words) (c.as_slice-values.ensures ∙ is.chosen)) reached
+
+pub returns-clause-kept : goal.returns-clause-kept
+returns-clause-kept c =
+    let f = frame_term c.args.frame.now in
+    kept_behind f c.args.sizes.now c.in_ok-last.last.read c.in_ok-found.found.left c.keep.new.kept c.requires.sound c.requires.fit c.in_ok-last.ensures.sizes c.in_ok-last.ensures.read c.in_ok-found.ensures.left c.keep.ensures

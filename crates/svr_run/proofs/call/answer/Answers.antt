@@ -21,8 +21,8 @@ pub overflow_add-number : goal.overflow_add-number
 overflow_add-number g c =
     omega (arith, has_room (watcher g.W.Watch.content g.W.Watch.step g.W.Watch.left) (design_term c.args.script.now.design.now) c.args.script.now.opts c.args.script.now.extra c.requires.can_run (call (call_term c.args.call.now)) c.args.run.now _ c.requires.next)
 
-pub randomize-requires-clause-made : goal.randomize-requires-clause-made
-randomize-requires-clause-made g c =
+pub randomize_again-requires-clause-made : goal.randomize_again-requires-clause-made
+randomize_again-requires-clause-made g c =
     (can_execute (watcher g.W.Watch.content g.W.Watch.step g.W.Watch.left) (design_term c.args.script.now.design.now) c.args.script.now.opts c.args.script.now.extra c.requires.can_run (call (call_term c.args.call.now)) c.args.run.now _ c.requires.going c.requires.next).0
 
 pub sample-requires : goal.sample-requires
@@ -47,11 +47,11 @@ answered-told-requires-clause-few_blocks g c =
 
 pub answered-told-requires-clause-fits : goal.answered-told-requires-clause-fits
 answered-told-requires-clause-fits g c =
-    zero_fits c.args.run.now.progress.world c.args.call.now.object (frame_term c.args.frame.now) (c.args.run.now.progress.calls + 1) c.args.script.now.opts c.in_ok-outcome.outcome c.randomize.new.world c.requires.sound c.requires.allowed.2 c.in_ok-outcome.ensures.step
+    zero_fits c.args.run.now.progress.world c.args.call.now.object (frame_term c.args.frame.now) (c.args.run.now.progress.calls + 1) c.args.script.now.opts c.in_ok-outcome.outcome c.randomize_again.new.world c.requires.sound c.requires.allowed.2 c.in_ok-outcome.ensures.step
 
 pub answered-told-requires-clause-shown : goal.answered-told-requires-clause-shown
 answered-told-requires-clause-shown g c =
-    proofs_shown c.args.run.now.progress.world c.args.call.now.object (frame_term c.args.frame.now) (c.args.run.now.progress.calls + 1) c.args.script.now.opts c.in_ok-outcome.outcome c.randomize.new.world c.in_ok-outcome.ensures.step
+    proofs_shown c.args.run.now.progress.world c.args.call.now.object (frame_term c.args.frame.now) (c.args.run.now.progress.calls + 1) c.args.script.now.opts c.in_ok-outcome.outcome c.randomize_again.new.world c.in_ok-outcome.ensures.step
 
 pub returns-in_err-outcome-clause-halts : goal.returns-in_err-outcome-clause-halts
 returns-in_err-outcome-clause-halts g c =
@@ -73,7 +73,7 @@ returns-clause-steps g c =
     let extra = c.args.script.now.extra in
     let ct = call_term c.args.call.now in
     let p = c.args.run.now in
-    let w = c.randomize.new.world in
+    let w = c.randomize_again.new.world in
     let o = c.in_ok-outcome.outcome in
     let a = sinks (g.K.Sink.written c.args.out.now) (g.K.Sink.faults c.args.out.now) (g.J.Sink.written c.args.journal.now) (g.J.Sink.faults c.args.journal.now) in
     let u = sinks (g.K.Sink.written c.answered-told.new.out) (g.K.Sink.faults c.answered-told.new.out) (g.J.Sink.written c.answered-told.new.journal) (g.J.Sink.faults c.answered-told.new.journal) in
@@ -91,8 +91,11 @@ returns-clause-modes g c =
     let p = c.args.run.now in
     let made = (can_execute wa d opts extra c.requires.can_run (call ct) p _ c.requires.going c.requires.next).0 in
     on_ok_weaker c.answered-told.result
-    (λ state. modes_behind ct (frame_term c.args.frame.now) (p.progress.calls + 1) opts p.progress.world c.randomize.new.world c.answered-told.new.progress.world c.in_ok-outcome.outcome made c.in_ok-outcome.ensures.step (ap (λ (s : State). s.world) state))
+    (λ state. modes_behind ct (frame_term c.args.frame.now) (p.progress.calls + 1) opts p.progress.world c.randomize_again.new.world c.answered-told.new.progress.world c.in_ok-outcome.outcome made c.in_ok-outcome.ensures.step (ap (λ (s : State). s.world) state))
     c.answered-told.ensures.state
+
+pub returns-clause-kept : goal.returns-clause-kept
+returns-clause-kept g c = on_ok_weaker c.answered-told.result (λ state. c.in_ok-outcome.ensures.kept) c.answered-told.ensures.state
 
 pub returns-clause-halts : goal.returns-clause-halts
 returns-clause-halts g c =
@@ -103,5 +106,5 @@ returns-clause-halts g c =
     let a = sinks (g.K.Sink.written c.args.out.now) (g.K.Sink.faults c.args.out.now) (g.J.Sink.written c.args.journal.now) (g.J.Sink.faults c.args.journal.now) in
     let u = sinks (g.K.Sink.written c.answered-told.new.out) (g.K.Sink.faults c.answered-told.new.out) (g.J.Sink.written c.answered-told.new.journal) (g.J.Sink.faults c.answered-told.new.journal) in
     IfErr-weaker c.answered-told.result _ _
-    (λ why cut. call_halts wa d opts extra (call_term c.args.call.now) (frame_term c.args.frame.now) c.args.run.now c.randomize.new.world c.in_ok-outcome.outcome a u why c.requires.going c.requires.framed c.in_ok-outcome.ensures.step cut)
+    (λ why cut. call_halts wa d opts extra (call_term c.args.call.now) (frame_term c.args.frame.now) c.args.run.now c.randomize_again.new.world c.in_ok-outcome.outcome a u why c.requires.going c.requires.framed c.in_ok-outcome.ensures.step cut)
     c.answered-told.ensures.not_told

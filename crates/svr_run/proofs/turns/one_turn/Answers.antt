@@ -1,7 +1,10 @@
-use Rattle.std.proofs.Common.{◌∷◌, [], refl}
+use Rattle.std.proofs.Common.{◌∷◌, [], refl, sym, subst}
 use Rattle.std.proofs.lemmas.Result.{on_ok_weaker, IfErr-weaker}
 use Rattle.svr_typed.specs.StmtTerm.{call, call_term, design_term}
-use Rattle.svr_frame.specs.Frame.{frame_term}
+use Rattle.svr_frame.specs.Frame.{FrameTerm, frame_term}
+use Rattle.svr_frame_of.specs.Choosing.{in_state, as_chosen}
+use Rattle.svr_randomize.specs.Kept.{IsKept}
+use Rattle.svr_randomize.proofs.Keeping.{kept_in}
 use Rattle.svr_run.specs.declared.stop.Stop.TheVariants.{NoMemory}
 use Rattle.svr_run.specs.Telling.{sinks}
 use Rattle.svr_run.specs.Watching.{watcher}
@@ -44,6 +47,11 @@ pub answer-requires-clause-framed : goal.answer-requires-clause-framed
 answer-requires-clause-framed g c =
     let d = design_term c.args.script.now.design.now in
     renewed_is d (call_term c.args.call.now) (frame_term c.args.frame.now) c.args.run.now.progress.world (frame_term c.renew.new.frame) c.requires.framed c.in_ok-renew.ensures
+
+pub answer-requires-clause-kept : goal.answer-requires-clause-kept
+answer-requires-clause-kept g c =
+    let f = frame_term c.args.frame.now in
+    subst (λ (x : FrameTerm). IsKept x c.args.kept.now) (sym c.in_ok-renew.ensures) (kept_in f (as_chosen (in_state f _)) (λ s free. refl) c.args.kept.now c.requires.kept)
 
 pub answer-requires-clause-sound : goal.answer-requires-clause-sound
 answer-requires-clause-sound g c =

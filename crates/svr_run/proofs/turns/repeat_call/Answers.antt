@@ -74,6 +74,9 @@ take_turns-told-requires-clause-framed g c =
     first_frame d ct (frame_term c.in_ok-frame.frame) p.progress.world
     (c.in_ok-frame.ensures.frame ∙ ap (λ (x : FlatTerm). frame_of x d.enums (state_of p.progress.world ct.object) (object_of p.progress.world ct.object).rand_modes (object_of p.progress.world ct.object).block_modes ct) flat)
 
+pub take_turns-told-requires-clause-kept : goal.take_turns-told-requires-clause-kept
+take_turns-told-requires-clause-kept g c = c.new-kept.ensures (frame_term c.in_ok-frame.frame)
+
 pub returns-in_err-frame-clause-breaks : goal.returns-in_err-frame-clause-breaks
 returns-in_err-frame-clause-breaks g c =
     let wa = watcher g.W.Watch.content g.W.Watch.step g.W.Watch.left in

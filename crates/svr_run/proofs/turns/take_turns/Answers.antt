@@ -22,6 +22,7 @@ loop-time-init g c =
     let turns : times n xs ≡ times (n - 0) xs = all_turns n xs in
     record {
       framed = c.requires.framed;
+      kept = c.requires.kept;
       before = before_row wa d opts extra (times n xs) (times (n - 0) xs) p s turns c.requires.before;
       goes = λ q after way. goes_row wa d opts extra (times (n - 0) xs) (times n xs) p q s after (sym turns) way;
       breaks = λ why after halt. breaks_row wa d opts extra (times (n - 0) xs) (times n xs) p s after why (sym turns) halt;
@@ -60,6 +61,7 @@ loop-time-preserved g c =
     let turn : Goes wa d opts extra xs p s q u = c.in_ok-one_turn.ensures.goes in
     record {
       framed = c.in_ok-one_turn.ensures.framed;
+      kept = c.in_ok-one_turn.ensures.kept;
       before = before_next wa d opts extra xs ys p q s u (before_row wa d opts extra (times (n - i) xs) (xs ++ ys) p s split c.loop-time.invariant.before) turn;
       goes = λ r after way. c.loop-time.invariant.goes r after (goes_row wa d opts extra (xs ++ ys) (times (n - i) xs) p r s after (sym split) (goes_then wa d opts extra xs ys p q s u r after turn way));
       breaks = λ why after halt. c.loop-time.invariant.breaks why after (breaks_row wa d opts extra (xs ++ ys) (times (n - i) xs) p s after why (sym split) (breaks_then wa d opts extra xs ys p q s u why after turn halt));
