@@ -6,7 +6,6 @@ use Rattle.std.proofs.lemmas.List.{length-append}
 use Rattle.std.proofs.lemmas.List.Elements.{All-nil}
 use Rattle.svr_chain.specs.Views.{RefutationView}
 use Rattle.svr_eval.specs.Reading.{Reading}
-use Rattle.svr_world.specs.declared.change.Change.{Change}
 use Rattle.svr_world.specs.declared.change.Replacement.{Replacement}
 use Rattle.svr_frame.specs.declared.part.Part.TheVariants.{Randc, Sizes, All as Whole}
 use Rattle.svr_frame.specs.Frame.{FrameTerm}
@@ -18,19 +17,16 @@ use Rattle.svr_encoded.specs.declared.encoded.Encoded.{Encoded}
 use Rattle.svr_phase.specs.declared.proof.Proof.{Proof}
 use Rattle.svr_phase.specs.Spent.{IsSpent}
 use Rattle.svr_phase.specs.Proof.{StandsForHard, StandsForDrop, StandsForNoSizes, StandsForCap}
-use Rattle.svr_phase.specs.Cyclic.{fixed_of}
 use Rattle.svr_phase.specs.Sizes.{Asked, meets_all, chooses_sizes, AreAllowed, HasNoSizes, IsBeyondCap, fits_preferred, cap_bits}
 use Rattle.svr_phase.specs.Ends.{Call, renewals, weight_limit, HasSizes, kept_sizes, chosen_sizes, ReachesSizes, IsLight, question_of, IsZeroCyclic, GivesUpCyclic, SizesAreSpent}
 use Rattle.svr_call.specs.declared.outcome.Dropped.{Dropped}
-use Rattle.svr_call.specs.declared.outcome.Query.{Query}
 use Rattle.svr_call.specs.declared.outcome.Query.TheVariants as query
 use Rattle.svr_call.specs.declared.outcome.Outcome.{Outcome}
 use Rattle.svr_call.specs.declared.outcome.Outcome.TheVariants.{One, Zero, GaveUp, TooHeavy, SizeCap}
-use Rattle.svr_call.specs.Call.{ReachesValues, AsksValues, Gives, as_preferred, as_solved, IsSolution, IsTooHeavy, heavy_cyclic, heavy_sizes, heavy_values, all_kept, numbers_read, random_props, preferred, CanBe, DropsAreProved, GivesUp}
+use Rattle.svr_call.specs.Call.{ReachesValues, AsksValues, as_preferred, as_solved, IsSolution, heavy_cyclic, heavy_sizes, heavy_values, all_kept, numbers_read, random_props, preferred, DropsAreProved, GivesUp}
 use Rattle.svr_budget_laws.proofs.Named.{alone_named, stands_first, values_first, cycles_first}
-use Rattle.svr_solution.specs.Calls.{call_in}
 use Rattle.svr_question.specs.declared.ask.Met.{Met}
-use Rattle.svr_question.specs.Ends.{IsNamed, AreProved, CanMeet, IsMet, IsAsked, IsAskedFor}
+use Rattle.svr_question.specs.Ends.{IsNamed, AreProved, CanMeet, IsMet, IsAskedFor}
 use Rattle.svr_cyclic.specs.declared.choose.Chosen.{Chosen}
 use Rattle.svr_cyclic.specs.Ends.{IsChosen}
 use Rattle.svr_randomize.specs.declared.answer.Answer.{Answer}

@@ -1,8 +1,7 @@
 -- The numbers of an assignment of the last phase are a change that fits objects of the class.
-use Rattle.std.proofs.Common.{◌≡◌, ◌<◌, ◌≤◌, ◌+◌, ◌^◌, ℕ, zero, suc, Bool, true, false, refl, sym, ◌∙◌, ap, subst, List, [], ◌∷◌, map, length, Option, None, Some, IsSome, arith}
-use Rattle.std.specs.Prelude.{⊤, filter, slice_get, slice_index, slice_index_or}
+use Rattle.std.proofs.Common.{◌≡◌, ◌<◌, ◌≤◌, ◌+◌, ◌^◌, ℕ, zero, suc, Bool, true, false, refl, sym, ap, subst, List, [], ◌∷◌, map, length, Option, None, Some, IsSome, arith}
+use Rattle.std.specs.Prelude.{filter, slice_get, slice_index, slice_index_or}
 use Rattle.std.specs.List.{All, range_with_len}
-use Rattle.std.specs.List.Sorted.{IsStrictlyIncreasing}
 use Rattle.std.proofs.lemmas.List.Elements.{All-nil, All-cons}
 use Rattle.std.proofs.lemmas.List.FromFn.{length-map-range_with_len}
 use Rattle.svr_limits.specs.declared.limit.TheConstants.{ELEMENT_LIMIT}
@@ -20,7 +19,7 @@ use Rattle.svr_world.proofs.Kept.{this_object}
 use Rattle.svr_world.proofs.Short.{change_short}
 use Rattle.svr_world.proofs.Fitting.{object_with_fits}
 use Rattle.svr_frame.specs.declared.part.Part.TheVariants.{All as Whole}
-use Rattle.svr_frame.specs.Frame.{FrameTerm, is_dynamic_kind, is_random, has_free_size, width_of, props_of}
+use Rattle.svr_frame.specs.Frame.{FrameTerm, is_dynamic_kind, is_random, has_free_size}
 use Rattle.svr_frame.specs.Satisfaction.{IsAssignment}
 use Rattle.svr_frame.specs.Sound.{SizeIsOf, IsSound, SizesFit}
 use Rattle.svr_frame_laws.proofs.Answers.{any_prop, found}

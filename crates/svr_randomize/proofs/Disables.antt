@@ -1,5 +1,5 @@
 -- The tests around each `disable soft` are of the state, and the index of its target stands still (18.5.14.2).
-use Rattle.std.proofs.Common.{◌≡◌, ◌==◌, ◌/◌, ℕ, zero, suc, Bool, true, false, refl, sym, subst, List, [], ◌∷◌, ◌++◌, map, Option, None, Some}
+use Rattle.std.proofs.Common.{◌≡◌, ◌==◌, ◌/◌, ℕ, zero, suc, Bool, true, false, refl, sym, subst, List, [], ◌∷◌, ◌++◌, map, None, Some}
 use Rattle.std.specs.Prelude.{⊤, slice_index, if◌then◌else◌}
 use Rattle.svr_typed.specs.ExprTerm.{ExprTerm, typed}
 use Rattle.svr_typed.specs.ItemTerm.{ItemTerm, plain, unique, implies, branch, foreach, disable, solve, ItemTerms, no_items, more_items, ElseTerm, no_else, else_items}

@@ -1,14 +1,14 @@
 -- Trees that stand for the items of the last phase: they can be evaluated, and made into clauses.
-use Rattle.std.proofs.Common.{◌≡◌, ◌++◌, ◌&&◌, Bool, true, false, refl, sym, ap, ◌∙◌, subst, List, [], ◌∷◌, ℕ, suc, map, length}
+use Rattle.std.proofs.Common.{◌≡◌, ◌++◌, ◌&&◌, Bool, refl, sym, ap, ◌∙◌, List, [], ◌∷◌, ℕ, suc, map, length}
 use Rattle.std.specs.List.{list_all}
 use Rattle.std.proofs.lemmas.List.{map-append}
 use Rattle.std.proofs.lemmas.List.Folds.{list_all-append}
 use Rattle.svr_typed.specs.declared.expr.TExpr.{TExpr}
-use Rattle.svr_typed.specs.ExprTerm.{ExprTerm, expr_term}
+use Rattle.svr_typed.specs.ExprTerm.{expr_term}
 use Rattle.svr_eval.specs.Reading.{Reading, reading_of}
 use Rattle.svr_frame.specs.declared.part.Part.TheVariants.{All as Whole}
 use Rattle.svr_frame.specs.Frame.{FrameTerm, state_at}
-use Rattle.svr_frame.specs.Occurrences.{Occurrence, is_true, closed_of}
+use Rattle.svr_frame.specs.Occurrences.{is_true, closed_of}
 use Rattle.svr_frame.specs.Phases.{hard_of, live_of}
 use Rattle.svr_frame.specs.Satisfaction.{IsAssignment}
 use Rattle.svr_frame.specs.Sound.{IsSound, SizesFit}

@@ -1,18 +1,15 @@
 -- What is kept of a call are the items of each later one in its frame that reads the same numbers.
-use Rattle.std.proofs.Common.{◌≡◌, ◌+◌, ◌-◌, ℕ, Bool, false, refl, sym, ◌∙◌, ap, subst, List, [], ◌∷◌, ◌++◌, map, length, Option, None, Some, arith}
+use Rattle.std.proofs.Common.{◌≡◌, ℕ, Bool, false, refl, sym, ◌∙◌, ap, subst, List, [], ◌++◌, map, length, Option, None, Some, arith}
 use Rattle.std.specs.Prelude.{slice_index, slice_index_or}
 use Rattle.std.proofs.lemmas.List.{length-append, map-append}
 use Rattle.svr_chain.specs.declared.clause.Lit.{Lit}
-use Rattle.svr_chain.specs.Valuations.{lit_value, Meets}
-use Rattle.svr_typed.specs.declared.expr.TExpr.{TExpr}
 use Rattle.svr_typed.specs.ExprTerm.{ExprTerm, expr_term}
 use Rattle.svr_eval.specs.declared.assign.Assign.{Assign}
-use Rattle.svr_eval.specs.Reading.{Reading}
 use Rattle.svr_frame.specs.declared.part.Part.TheVariants.{All as Whole}
 use Rattle.svr_frame.specs.declared.slot.Slot.{Slot}
 use Rattle.svr_frame.specs.declared.slot.Slot.TheVariants.{Scalar, Element, Size}
 use Rattle.svr_frame.specs.Frame.{FrameTerm, state_at}
-use Rattle.svr_frame.specs.Occurrences.{Occurrence, closed_of}
+use Rattle.svr_frame.specs.Occurrences.{closed_of}
 use Rattle.svr_frame.specs.Phases.{unknowns_of, hard_of, live_of}
 use Rattle.svr_frame.specs.Satisfaction.{is_at}
 use Rattle.svr_frame.specs.Sound.{IsSound, SizesFit}

@@ -1,5 +1,5 @@
 -- All soft items are kept, by their ranks.
-use Rattle.std.proofs.Common.{◌≡◌, ℕ, suc, ◌+◌, true, refl, sym, ap, ◌∙◌, List, [], ◌∷◌, ◌++◌, map, length, arith}
+use Rattle.std.proofs.Common.{◌≡◌, ℕ, suc, ◌+◌, refl, sym, ap, ◌∙◌, List, [], ◌∷◌, ◌++◌, map, length, arith}
 use Rattle.std.specs.List.{range_with_len}
 use Rattle.svr_values.proofs.Lists.{mapped_more}
 use Rattle.svr_frame.specs.Occurrences.{Occurrence}

@@ -14,7 +14,7 @@ use Rattle.svr_eval.specs.Value.{element_at, cell_at, index_read, is_set, size_o
 use Rattle.svr_frame.specs.declared.part.Part.TheVariants.{All as Whole}
 use Rattle.svr_frame.specs.declared.slot.Slot.{Slot}
 use Rattle.svr_frame.specs.declared.slot.Slot.TheVariants.{Scalar, Element, Size}
-use Rattle.svr_frame.specs.Frame.{FrameTerm, is_array, is_random, members_of, state_at, state_sizes, width_of}
+use Rattle.svr_frame.specs.Frame.{FrameTerm, is_random, members_of, state_at, state_sizes, width_of}
 use Rattle.svr_frame.specs.Closed.{closed, index_number}
 use Rattle.svr_frame.specs.Occurrences.{Guard, Fact, stated, dealt, disabled, Occurrence, are_met, is_hard, condition, guarded, closed_members, fact_expr, are_weighed, closed_of}
 use Rattle.svr_frame.specs.Reads.{Read, of_scalar, of_element, of_cell, of_elements, of_size, property_read, is_size_read, reads, reads_of, has_place, is_cell_at, covers, is_open, mentions_element}
@@ -22,11 +22,11 @@ use Rattle.svr_frame.specs.Phases.{unknowns_of, among_members, domain_item, doma
 use Rattle.svr_frame.specs.Satisfaction.{is_at, AllFit, IsAssignment}
 use Rattle.svr_frame.specs.Sound.{IsSound, SizesFit, stands_still, node_stands_still}
 use Rattle.svr_frame.proofs.Blind.{any_reads}
-use Rattle.svr_frame_laws.proofs.Answers.{no_size, scalar_one}
+use Rattle.svr_frame_laws.proofs.Answers.{scalar_one}
 use Rattle.svr_frame_laws.proofs.Mentions.{SameRead, AllSame, SameAround, val_same}
 use Rattle.svr_frame_laws.proofs.Truth.{SameWeights, FactSameWeights}
 use Rattle.svr_frame_laws.proofs.Unmentioned.{not_sought, none_of, not_true, index_still}
-use Rattle.svr_frame_laws.proofs.Standing.{OccurrenceIsIn, AllAreIn, active_in, fact_weights, state_alone}
+use Rattle.svr_frame_laws.proofs.Standing.{AllAreIn, active_in, fact_weights, state_alone}
 use Rattle.svr_randomize.specs.Kept.{with_state}
 use Rattle.svr_randomize.proofs.Unknowns.{sought}
 use Rattle.svr_randomize.proofs.Disables.{AreOfState, DisableStands, AllDisablesStand, active_stand}

@@ -1,6 +1,6 @@
 -- A random property is looked for in the last phase at each place below its size.
-use Rattle.std.proofs.Common.{◌≡◌, ◌<◌, ◌≤◌, ◌==◌, ◌+◌, ℕ, zero, suc, Bool, true, false, not, ◌&&◌, ◌||◌, refl, sym, ◌∙◌, ap, List, [], ◌∷◌, ◌++◌, map, length, arith}
-use Rattle.std.specs.Prelude.{filter, nat_lt, slice_index, slice_index_or, if◌then◌else◌}
+use Rattle.std.proofs.Common.{◌≡◌, ◌<◌, ◌≤◌, ◌==◌, ◌+◌, ℕ, zero, suc, Bool, true, false, not, ◌&&◌, ◌||◌, refl, ◌∙◌, ap, List, [], ◌∷◌, ◌++◌, map, length, arith}
+use Rattle.std.specs.Prelude.{filter, nat_lt, slice_index, slice_index_or}
 use Rattle.std.specs.List.{All, list_any, flat_map, range_with_len}
 use Rattle.std.proofs.lemmas.Bool.{and_parts, eq-eqb, ltb-true, ltb-false}
 use Rattle.std.proofs.lemmas.List.Folds.{list_any-append}
@@ -11,7 +11,7 @@ use Rattle.svr_typed.specs.declared.class.EnumType.{EnumType}
 use Rattle.svr_frame.specs.declared.part.Part.TheVariants.{All as Whole}
 use Rattle.svr_frame.specs.declared.slot.Slot.{Slot}
 use Rattle.svr_frame.specs.declared.slot.Slot.TheVariants.{Scalar, Element}
-use Rattle.svr_frame.specs.Frame.{FrameTerm, is_scalar_kind, is_randc, is_array, is_random, is_cyclic, props_of}
+use Rattle.svr_frame.specs.Frame.{FrameTerm, is_scalar_kind, is_randc, is_array, is_random, is_cyclic}
 use Rattle.svr_frame.specs.Phases.{cyclic_slots, scalar_slots, element_slots, is_random_array, unknowns_of}
 use Rattle.svr_frame.specs.Satisfaction.{is_at}
 use Rattle.svr_frame.specs.Sound.{IsProp, IsSound, SizesFit}

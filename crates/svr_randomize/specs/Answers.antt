@@ -1,6 +1,6 @@
 -- What a call answers and changes, whatever the world around its object.
 use Rattle.svr_limits.specs.declared.limit.TheConstants.{ELEMENT_LIMIT}
-use Rattle.std.specs.Prelude.{◌≡◌, ◌≤◌, true, ℕ, List, [], Option, Some, None, ⊤, map}
+use Rattle.std.specs.Prelude.{◌≡◌, ◌≤◌, true, ℕ, List, Option, Some, None, ⊤, map}
 use Rattle.svr_typed.specs.ExprTerm.{expr_term}
 use Rattle.svr_typed.specs.ClassTerm.{FlatTerm}
 use Rattle.svr_eval.specs.Reading.{Reading}
@@ -15,7 +15,7 @@ use Rattle.svr_draw.specs.Words.{generator, word_of}
 use Rattle.svr_phase.specs.declared.options.Options.{Options}
 use Rattle.svr_phase.specs.Spent.{closed_at}
 use Rattle.svr_phase.specs.Sizes.{chooses_sizes}
-use Rattle.svr_phase.specs.Ends.{Call, PassesCyclic, HasSizes, IsLight}
+use Rattle.svr_phase.specs.Ends.{Call, HasSizes, IsLight}
 use Rattle.svr_call.specs.Call.{Steps, ReachesValues, AsksValues, preferred}
 use Rattle.svr_budget_laws.specs.Bounds.{HasFewEncodings, NameOneAPhase}
 use Rattle.svr_solution.specs.Calls.{call_in}

@@ -1,11 +1,6 @@
-use Rattle.std.proofs.Common.{◌≡◌, ◌<◌, ◌≤◌, ◌^◌, ℕ, List, None, length, sym, ap, subst, ◌∙◌, arith}
+use Rattle.std.proofs.Common.{None, sym, ap, subst, ◌∙◌}
 use Rattle.std.proofs.lemmas.Result.{IfOk-weaker}
-use Rattle.svr_typed.specs.ExprTerm.{expr_term}
-use Rattle.svr_eval.specs.Reading.{reading_of}
-use Rattle.svr_frame.specs.declared.part.Part.TheVariants.{All as Whole}
-use Rattle.svr_frame.specs.Frame.{frame_term, state_at}
-use Rattle.svr_frame.specs.Occurrences.{closed_of}
-use Rattle.svr_frame.specs.Phases.{hard_of}
+use Rattle.svr_frame.specs.Frame.{frame_term}
 use Rattle.svr_phase.specs.Chosen.{AreCyclicValues}
 use Rattle.svr_call.specs.declared.outcome.Query.{Query}
 use Rattle.svr_call.specs.declared.outcome.Outcome.TheVariants.{GaveUp}

@@ -1,14 +1,11 @@
-use Rattle.std.proofs.Common.{◌≡◌, ◌++◌, ◌∷◌, [], ℕ, List, length, sym, ap, subst, ◌∙◌}
+use Rattle.std.proofs.Common.{ℕ, List, length, sym, subst, ◌∙◌}
 use Rattle.std.proofs.lemmas.Result.{IfOk-weaker}
 use Rattle.svr_eval.specs.Reading.{reading_of}
 use Rattle.svr_frame.specs.declared.part.Part.TheVariants.{All as Whole}
 use Rattle.svr_frame.specs.Frame.{frame_term}
 use Rattle.svr_frame.specs.Satisfaction.{IsAssignment}
 use Rattle.svr_phase.specs.Chosen.{AreCyclicValues}
-use Rattle.svr_call.specs.declared.outcome.Outcome.TheVariants.{One}
-use Rattle.svr_call.specs.Call.{numbers_read, random_props}
 use Rattle.svr_solution.specs.Calls.{call_in}
-use Rattle.svr_cyclic.specs.declared.choose.Chosen.{Chosen}
 use Rattle.svr_question.specs.Ends.{IsMet}
 use Rattle.svr_randomize.specs.declared.answer.Answer.{Answer}
 use Rattle.svr_randomize.specs.Answers.{FitsIfChanged}

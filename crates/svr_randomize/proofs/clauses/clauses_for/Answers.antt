@@ -1,14 +1,11 @@
-use Rattle.std.proofs.Common.{◌≡◌, ◌++◌, List, map, sym, ap, ◌∙◌, subst}
-use Rattle.std.proofs.lemmas.List.{map-append}
-use Rattle.svr_typed.specs.declared.expr.TExpr.{TExpr}
-use Rattle.svr_typed.specs.ExprTerm.{ExprTerm, expr_term}
+use Rattle.std.proofs.Common.{◌++◌, List, subst}
+use Rattle.svr_typed.specs.ExprTerm.{ExprTerm}
 use Rattle.svr_eval.specs.Reading.{reading_of}
 use Rattle.svr_frame.specs.declared.part.Part.TheVariants.{All as Whole}
 use Rattle.svr_frame.specs.Frame.{frame_term, state_at}
-use Rattle.svr_frame.specs.Occurrences.{closed_of}
 use Rattle.svr_frame.specs.Phases.{hard_of, live_of}
 use Rattle.svr_encoded.specs.Encodes.{Encodes}
-use Rattle.svr_clauses.proofs.Encodable.{both_encodable, hard_encodable, live_encodable, all_typed, all_inside, all_readable, all_fixed}
+use Rattle.svr_clauses.proofs.Encodable.{all_typed, all_inside, all_readable, all_fixed}
 use Rattle.svr_randomize.proofs.Items.{items_stand, items_encodable}
 use Rattle.svr_randomize.proofs.clauses.clauses_for.Goals as goal
 

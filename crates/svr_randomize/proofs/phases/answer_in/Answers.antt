@@ -1,4 +1,4 @@
-use Rattle.std.proofs.Common.{◌≡◌, ◌≤◌, ℕ, List, sym, ap, subst, ◌∙◌}
+use Rattle.std.proofs.Common.{◌≤◌, ℕ, sym, ap, subst, ◌∙◌}
 use Rattle.std.proofs.lemmas.Result.{IfOk-weaker}
 use Rattle.svr_world.specs.World.{object_of}
 use Rattle.svr_frame.specs.declared.part.Part.TheVariants.{Randc}
@@ -8,7 +8,6 @@ use Rattle.svr_phase.specs.Chosen.{AreCyclicValues}
 use Rattle.svr_phase.specs.Ends.{weight_limit}
 use Rattle.svr_phase.proofs.Chosen.{passed_values}
 use Rattle.svr_call.specs.Call.{call_of}
-use Rattle.svr_cyclic.specs.declared.choose.CyclicEnd.{CyclicEnd}
 use Rattle.svr_cyclic.specs.Ends.{CyclicEnds, FitsIfChosen}
 use Rattle.svr_randomize.specs.declared.answer.Answer.{Answer}
 use Rattle.svr_randomize.specs.Answers.{FitsIfChanged}

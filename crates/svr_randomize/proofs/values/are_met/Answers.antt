@@ -1,4 +1,4 @@
-use Rattle.std.proofs.Common.{subst, sym}
+use Rattle.std.proofs.Common.{subst}
 use Rattle.svr_frame.specs.Frame.{frame_term}
 use Rattle.svr_randomize.specs.declared.kept.Form.{Form}
 use Rattle.svr_randomize.specs.Kept.{AreItemsIn}

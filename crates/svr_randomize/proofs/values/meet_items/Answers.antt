@@ -1,4 +1,4 @@
-use Rattle.std.proofs.Common.{◌≡◌, ◌&&◌, true, false, Bool, List, [], map, sym, ap, subst, ◌∙◌}
+use Rattle.std.proofs.Common.{◌≡◌, ◌&&◌, true, false, List, [], map, sym, ap, subst, ◌∙◌}
 use Rattle.std.specs.List.{All, list_all}
 use Rattle.svr_typed.specs.declared.expr.TExpr.{TExpr}
 use Rattle.svr_typed.specs.ExprTerm.{expr_term}
