@@ -1,9 +1,8 @@
-use Rattle.std.proofs.Common.{◌∷◌, [], refl, sym, subst}
+use Rattle.std.proofs.Common.{◌∷◌, [], refl, ap}
 use Rattle.std.proofs.lemmas.Result.{on_ok_weaker, IfErr-weaker}
 use Rattle.svr_typed.specs.StmtTerm.{call, call_term, design_term}
 use Rattle.svr_frame.specs.Frame.{FrameTerm, frame_term}
-use Rattle.svr_frame_of.specs.Choosing.{in_state, as_chosen}
-use Rattle.svr_randomize.specs.Kept.{IsKept}
+use Rattle.svr_randomize.specs.Kept.{with_state}
 use Rattle.svr_randomize.proofs.Keeping.{kept_in}
 use Rattle.svr_run.specs.declared.stop.Stop.TheVariants.{NoMemory}
 use Rattle.svr_run.specs.Telling.{sinks}
@@ -50,8 +49,7 @@ answer-requires-clause-framed g c =
 
 pub answer-requires-clause-kept : goal.answer-requires-clause-kept
 answer-requires-clause-kept g c =
-    let f = frame_term c.args.frame.now in
-    subst (λ (x : FrameTerm). IsKept x c.args.kept.now) (sym c.in_ok-renew.ensures) (kept_in f (as_chosen (in_state f _)) (λ s free. refl) c.args.kept.now c.requires.kept)
+    kept_in (frame_term c.args.frame.now) (frame_term c.renew.new.frame) (λ s free. ap (λ (x : FrameTerm). with_state x s free) c.in_ok-renew.ensures) c.args.kept.now c.requires.kept
 
 pub answer-requires-clause-sound : goal.answer-requires-clause-sound
 answer-requires-clause-sound g c =
