@@ -147,7 +147,7 @@ const FLAGS: [Front; 6] = [
         status: Status::SomeZero,
         fronts: Fronts {
             begin: b"#1 p 0 hard\np hard\nb a 1 0\nb b 2 0\nb c 3 0\np cnf 10 22\n4 0\n1 2 5 0\n-1 2 -5 0\n1 -2 -5 0\n-1 -2 5 0\n-5 -6 0\n5 6 0\n1 3 7 0\n-1 3 -7 0\n1 -3 -7 0\n-1 -3 7 0\n-7 -8 0\n7 8 0\n2 3 9 0\n-2 3 -9 0\n2 -3 -9 0\n-2 -3 9 0\n-9 -10 0\n9 10 0\n",
-            end: b"9 10 0\n6 0\n8 0\n10 0\n23 9 -1 5 7 0 11 5 14 0\n24 9 5 7 0 23 8 2 17 0\n25 -10 -8 -6 0 6 12 24 18 0\n26 0 22 21 20 25 0\ne\nconflict u.1\n",
+            end: b"9 10 0\n6 0\n8 0\n10 0\n23 7 -2 5 9 0 17 5 8 0\n24 7 5 9 0 23 14 2 11 0\n25 -10 -8 -6 0 6 12 24 18 0\n26 0 22 21 20 25 0\ne\nconflict u.1\n",
             journal: b"",
         },
     },
