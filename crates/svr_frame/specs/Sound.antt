@@ -1,7 +1,7 @@
 -- The frames that a call can have, and the sizes and cyclic values that fit one (IEEE 1800-2017, 18.3, 18.4 and 18.5).
 use Rattle.std.specs.Prelude.{◌≡◌, ◌==◌, ℕ, zero, suc, ◌+◌, ◌<◌, ◌≤◌, ◌^◌, Bool, true, false, not, ◌&&◌, ◌||◌, List, [], ◌∷◌, Option, None, Some, map, filter, length, slice_index, slice_index_or, ⊤}
 use Rattle.std.specs.List.{list_any, All}
-use Rattle.svr_limits.specs.declared.limit.TheConstants.{ELEMENT_LIMIT, PROPERTY_LIMIT}
+use Rattle.svr_limits.specs.declared.limit.TheConstants.{ARRAY_LIMIT, ELEMENT_LIMIT, PROPERTY_LIMIT}
 use Rattle.svr_typed.specs.declared.class.NumType.{NumType}
 use Rattle.svr_operator.specs.declared.Rand.{Rand}
 use Rattle.svr_typed.specs.declared.class.ArrayKind.{ArrayKind}
@@ -203,7 +203,7 @@ module _ (f : FrameTerm) where
 
   pub record IsSound : Type 0 where
     pub properties : length f.class.props ≤ PROPERTY_LIMIT
-    pub arrays : length (filter (is_array f) (props_of f)) ≤ 32
+    pub arrays : length (filter (is_array f) (props_of f)) ≤ ARRAY_LIMIT
     pub types : All IsEnum f.enums
     pub props : All (IsProp f.enums) f.class.props
     pub random : length f.random ≡ length f.class.props

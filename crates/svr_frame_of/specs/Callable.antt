@@ -1,7 +1,7 @@
 -- A class, an object of it and a call that can stand together in a script (IEEE 1800-2017, 18.4 to 18.11).
 use Rattle.std.specs.Prelude.{◌≡◌, ℕ, ◌≤◌, ◌<◌, ◌^◌, Bool, true, false, List, [], map, filter, length, slice_index_or, ⊤}
 use Rattle.std.specs.List.{All}
-use Rattle.svr_limits.specs.declared.limit.TheConstants.{PROPERTY_LIMIT}
+use Rattle.svr_limits.specs.declared.limit.TheConstants.{ARRAY_LIMIT, PROPERTY_LIMIT}
 use Rattle.svr_typed.specs.declared.class.Prop.{Prop}
 use Rattle.svr_typed.specs.declared.class.EnumType.{EnumType}
 use Rattle.svr_typed.specs.declared.stmt.CallList.{CallList}
@@ -58,7 +58,7 @@ ListCan props (list.Listed ps) = All (λ p. slice_index_or (map (λ (x : Prop). 
 -- the items of the class and of the call fit the class, whose object it is, whatever is switched on
 pub record IsCallable (class : FlatTerm) (enums : List EnumType) (object : ObjectTerm) (script : List ℕ) (call : CallTerm) : Type 0 where
   pub properties : length class.props ≤ PROPERTY_LIMIT
-  pub arrays : length (filter (is_array (widest class enums (state_from object script))) (props_of (widest class enums (state_from object script)))) ≤ 32
+  pub arrays : length (filter (is_array (widest class enums (state_from object script))) (props_of (widest class enums (state_from object script)))) ≤ ARRAY_LIMIT
   pub few_blocks : length class.blocks < 2 ^ 32
   pub types : All IsEnum enums
   pub props : All (IsProp enums) class.props
