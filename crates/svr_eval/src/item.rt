@@ -3,6 +3,7 @@
 ghost use Rattle.std.specs.Prelude.{◌≡◌, ◌≤◌, ◌+◌, ◌-◌, ◌⊎◌, length, map};
 ghost use Rattle.svr_typed.specs.ExprTerm.{expr_term};
 ghost use Rattle.svr_typed.specs.ItemTerm.{item_term, item_terms, dist_term, dist_terms};
+ghost use Rattle.svr_limits.specs.declared.limit.TheConstants.{LOOP_LIMIT};
 ghost use Rattle.svr_eval.specs.Reading.{reading_of};
 ghost use Rattle.svr_eval.specs.Typed.{IsTyped, CanRead};
 ghost use Rattle.svr_eval.specs.Value.{operand_of};
@@ -103,7 +104,7 @@ pub fn holds(item: &TItem, a: &Assign, env: &Env) -> bool
 fn row_holds(body: &[TItem], inner: u32, names: u8, a: &Assign, env: &Env) -> bool
     requires names { (names ≡ 1) ⊎ (names ≡ 2) }
     requires typed { ItemsAreTyped (item_terms body.now) }
-    requires depth { length env.now + names ≤ 257 }
+    requires depth { length env.now + names ≤ LOOP_LIMIT + 1 }
     requires reads { ItemsCanRead (reading_of a.now) (length env.now + names - 1) (item_terms body.now) }
     ensures { result ≡ spec.each_in_row inner names (λ indexes. spec.all_hold (reading_of a.now) indexes (item_terms body.now)) env.now }
 {
