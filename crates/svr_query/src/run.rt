@@ -235,12 +235,13 @@ pub fn decide(search: &mut Search, lit: Lit)
 }
 
 /// The refutation that an assumed literal gives which is false.
-pub fn refuted_by(search: &Search, assume: &[Lit], lit: Lit) -> Result<Found, NoMemory>
+pub fn refuted_by(search: &mut Search, assume: &[Lit], lit: Lit) -> Result<Found, NoMemory>
     requires apart { is_tautology assume.now ≡ false }
     requires assumed { has assume.now lit ≡ true }
-    requires denied { value_in search.now.entries lit ≡ Some false }
-    requires asked { Each (IsAsked assume.now) search.now.entries }
-    ensures found { IfOk result (IsFound search.now assume.now) }
+    requires denied { value_in search.old.entries lit ≡ Some false }
+    requires asked { Each (IsAsked assume.now) search.old.entries }
+    ensures same { search.new ≡ search.old }
+    ensures found { IfOk result (IsFound search.new assume.now) }
     ensures answers { IfOk result (λ r. r ≡ Found.Spent → ⊥) }
 {
     let denied = lit.flipped();

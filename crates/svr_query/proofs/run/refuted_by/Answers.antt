@@ -27,4 +27,4 @@ returns-clause-found c =
     let d : (x : Lit) → is_decided es x ≡ true → has assume x ≡ true = decided-has assume es c.requires.asked (never-true assume es l h f) in
     let r = c.in_ok-explained in
     let q : is_explained es (Some (flip l)) r.explained.lits ≡ true = rw c.flipped-denied.ensures at r.ensures.explained in
-    (r.ensures.derives, denied-from assume es (Some (flip l)) r.explained.lits d (λ x k. kept-flip assume l x h k) q)
+    rw c.explain.ensures.same (r.ensures.derives, denied-from assume es (Some (flip l)) r.explained.lits d (λ x k. kept-flip assume l x h k) q)

@@ -38,14 +38,20 @@ sweep-init c =
 
 pub returns-in_err-explained-in-Some-clause-logged : goal.returns-in_err-explained-in-Some-clause-logged
 returns-in_err-explained-in-Some-clause-logged c =
-    logged-same c.args.cnf.now c.sweep.steps.items c.sweep.search c.propagate.new.search c.sweep.invariant.logged c.propagate.ensures.same
+    rw c.explain.ensures.same (logged-same c.args.cnf.now c.sweep.steps.items c.sweep.search c.propagate.new.search c.sweep.invariant.logged c.propagate.ensures.same)
 
 pub returns-in_err-explained-in-Some-clause-few : goal.returns-in_err-explained-in-Some-clause-few
 returns-in_err-explained-in-Some-clause-few c = omega (arith, c.sweep.invariant.few)
 
 pub returns-then-are_denied-clause-logged : goal.returns-then-are_denied-clause-logged
 returns-then-are_denied-clause-logged c =
-    logged-same c.args.cnf.now c.sweep.steps.items c.sweep.search c.propagate.new.search c.sweep.invariant.logged c.propagate.ensures.same
+    rw c.explain.ensures.same (logged-same c.args.cnf.now c.sweep.steps.items c.sweep.search c.propagate.new.search c.sweep.invariant.logged c.propagate.ensures.same)
+
+pub returns-then-are_denied-clause-found : goal.returns-then-are_denied-clause-found
+returns-then-are_denied-clause-found c =
+    let assume = c.args.assume.now in
+    let r = c.in_ok-explained-in-Some in
+    rw c.explain.ensures.same (r.ensures.derives, ap (are_denied assume) (sym c.lits.ensures) ∙ (sym c.are_denied.ensures ∙ c.if-are_denied.true))
 
 pub returns-then-are_denied-clause-few : goal.returns-then-are_denied-clause-few
 returns-then-are_denied-clause-few c = omega (arith, c.sweep.invariant.few)
@@ -57,7 +63,7 @@ returns-in_err-reserve-in-Some-clause-logged c =
     let e = c.in_ok-explained-in-Some.explained in
     let d : are_denied assume e.lits ≡ false = ap (are_denied assume) (sym c.lits.ensures) ∙ (sym c.are_denied.ensures ∙ c.if-are_denied.false) in
     let w : IsLowest s.entries s.ends e.lits e.level = lowest-there assume e.lits e.level s.entries s.ends d (c.in_ok-explained-in-Some.ensures.lowest refl) in
-    let k : c.backjump.new.self.clauses ≡ s.clauses = ap (λ z. z.clauses) (c.backjump.ensures.back w.0) in
+    let k : c.backjump.new.self.clauses ≡ s.clauses = ap (λ z. z.clauses) ((rw c.explain.ensures.same at c.backjump.ensures.back) w.0) in
     rw (c.reserve.ensures.items, k) (logged-same c.args.cnf.now c.sweep.steps.items c.sweep.search s c.sweep.invariant.logged c.propagate.ensures.same)
 
 pub returns-in_err-reserve-in-Some-clause-few : goal.returns-in_err-reserve-in-Some-clause-few
@@ -70,7 +76,7 @@ learn-requires-clause-within c =
     let e = c.in_ok-explained-in-Some.explained in
     let d : are_denied assume e.lits ≡ false = ap (are_denied assume) (sym c.lits.ensures) ∙ (sym c.are_denied.ensures ∙ c.if-are_denied.false) in
     let w : IsLowest s.entries s.ends e.lits e.level = lowest-there assume e.lits e.level s.entries s.ends d (c.in_ok-explained-in-Some.ensures.lowest refl) in
-    let v : c.backjump.new.self.vars ≡ s.vars = ap (λ z. z.vars) (c.backjump.ensures.back w.0) in
+    let v : c.backjump.new.self.vars ≡ s.vars = ap (λ z. z.vars) ((rw c.explain.ensures.same at c.backjump.ensures.back) w.0) in
     subst (λ z. AreWithin z e.lits) (sym v) c.in_ok-explained-in-Some.ensures.within
 
 pub returns-in_err-learn-in-Some-clause-logged : goal.returns-in_err-learn-in-Some-clause-logged
@@ -80,7 +86,7 @@ returns-in_err-learn-in-Some-clause-logged c =
     let e = c.in_ok-explained-in-Some.explained in
     let d : are_denied assume e.lits ≡ false = ap (are_denied assume) (sym c.lits.ensures) ∙ (sym c.are_denied.ensures ∙ c.if-are_denied.false) in
     let w : IsLowest s.entries s.ends e.lits e.level = lowest-there assume e.lits e.level s.entries s.ends d (c.in_ok-explained-in-Some.ensures.lowest refl) in
-    let k : c.backjump.new.self.clauses ≡ s.clauses = ap (λ z. z.clauses) (c.backjump.ensures.back w.0) in
+    let k : c.backjump.new.self.clauses ≡ s.clauses = ap (λ z. z.clauses) ((rw c.explain.ensures.same at c.backjump.ensures.back) w.0) in
     let l : c.learn.new.self.clauses ≡ c.backjump.new.self.clauses = ap (λ z. z.clauses) c.in_err-learn-in-Some.ensures.err in
     rw (c.reserve.ensures.items, l, k) (logged-same c.args.cnf.now c.sweep.steps.items c.sweep.search s c.sweep.invariant.logged c.propagate.ensures.same)
 
@@ -99,7 +105,7 @@ sweep-smaller-in-Some c =
     let e = c.in_ok-explained-in-Some.explained in
     let d : are_denied assume e.lits ≡ false = ap (are_denied assume) (sym c.lits.ensures) ∙ (sym c.are_denied.ensures ∙ c.if-are_denied.false) in
     let w : IsLowest s.entries s.ends e.lits e.level = lowest-there assume e.lits e.level s.entries s.ends d (c.in_ok-explained-in-Some.ensures.lowest refl) in
-    let back = c.backjump.ensures.back w.0 in
+    let back = (rw c.explain.ensures.same at c.backjump.ensures.back) w.0 in
     let v1 : s.vars ≡ first.vars = ap (λ z. z.vars) c.propagate.ensures.kept in
     let v2 : b.vars ≡ s.vars = ap (λ z. z.vars) back in
     let v3 : t.vars ≡ b.vars = ap (λ z. z.vars) c.in_ok-learn-in-Some.ensures.kept in
@@ -128,7 +134,7 @@ sweep-preserved-in-Some c =
     let kept : IsSearch s = c.level-in-Some.ensures.kept in
     let d : are_denied assume e.lits ≡ false = ap (are_denied assume) (sym c.lits.ensures) ∙ (sym c.are_denied.ensures ∙ c.if-are_denied.false) in
     let w : IsLowest s.entries s.ends e.lits e.level = lowest-there assume e.lits e.level s.entries s.ends d (c.in_ok-explained-in-Some.ensures.lowest refl) in
-    let back = c.backjump.ensures.back w.0 in
+    let back = (rw c.explain.ensures.same at c.backjump.ensures.back) w.0 in
     let v1 : s.vars ≡ first.vars = ap (λ z. z.vars) c.propagate.ensures.kept in
     let v2 : b.vars ≡ s.vars = ap (λ z. z.vars) back in
     let v3 : t.vars ≡ b.vars = ap (λ z. z.vars) c.in_ok-learn-in-Some.ensures.kept in
@@ -228,7 +234,7 @@ refuted_by-requires-clause-asked c =
 
 pub returns-in-Denied-clause-logged : goal.returns-in-Denied-clause-logged
 returns-in-Denied-clause-logged c =
-    logged-same c.args.cnf.now c.sweep.steps.items c.sweep.search c.propagate.new.search c.sweep.invariant.logged c.propagate.ensures.same
+    rw c.refuted_by.ensures.same (logged-same c.args.cnf.now c.sweep.steps.items c.sweep.search c.propagate.new.search c.sweep.invariant.logged c.propagate.ensures.same)
 
 pub returns-in-Denied-clause-few : goal.returns-in-Denied-clause-few
 returns-in-Denied-clause-few c = omega (arith, c.sweep.invariant.few)
