@@ -1,11 +1,10 @@
 -- What is kept of an accepted log is accepted
-use Rattle.std.proofs.Common.{◌≡◌, ℕ, zero, suc, ◌+◌, ◌-◌, ◌<◌, ◌≤◌, Bool, true, false, ◌||◌, cond, List, [], ◌∷◌, ◌++◌, length, refl, ap, sym, ◌∙◌, subst, arith, Option, Some, None, Result, Ok, Err, get_or, ◌⊎◌, inl, inr}
+use Rattle.std.proofs.Common.{◌≡◌, ℕ, zero, suc, ◌+◌, ◌<◌, ◌≤◌, Bool, true, false, ◌||◌, cond, List, [], ◌∷◌, ◌++◌, length, refl, ap, sym, ◌∙◌, subst, arith, Option, Some, None, Result, Ok, Err, get_or, take, drop, ◌⊎◌, inl, inr}
 use Rattle.std.specs.Prelude.{IfSome, IfOk}
 use Rattle.std.specs.List.{list_any, slice_get}
-use Rattle.std.proofs.lemmas.Bool.{cond-false}
-use Rattle.std.proofs.lemmas.List.{length_push, get_or_append_left, get_or_push}
+use Rattle.std.proofs.lemmas.Bool.{cases_lt, cond-false}
+use Rattle.std.proofs.lemmas.List.{append-nil, append_assoc, get_or_append_left, get_or_push, length-take-le, length_push, take-append-drop, take-take, take_more}
 use Rattle.std.proofs.lemmas.List.Folds.{list_any-append}
-use Rattle.std.proofs.lemmas.Option.{slice_get_within}
 use Rattle.svr_chain.specs.declared.clause.Lit.{Lit}
 use Rattle.svr_chain.specs.declared.log.Link.{Link}
 use Rattle.svr_chain.specs.declared.log.Reason.{Reason}
@@ -90,10 +89,6 @@ named-split : (ks : List (List Lit)) (d c : List Lit) (n : ℕ) → named (ks ++
 named-split ks d c zero e = absurd (let z : None ≡ Some c = e in cc)
 named-split ks d c (suc n) e = elim (get-push ks d c n e) [ inl h ↦ inl h | inr h ↦ inr (omega (arith, h.0), h.1) ]
 
-named-within : (ks : List (List Lit)) (c : List Lit) (n : ℕ) → named ks n ≡ Some c → n ≤ length ks
-named-within ks c zero e = omega arith
-named-within ks c (suc n) e = omega (arith, slice_get_within ks n c e)
-
 both-false : (a b : Bool) → (a || b) ≡ false → (a ≡ false) × (b ≡ false)
 both-false true b h = absurd (let z : true ≡ false = h in cc)
 both-false false b h = (refl, h)
@@ -103,70 +98,69 @@ any-push P ks c h = both-false (list_any P ks) (list_any P (c ∷ [])) (sym (lis
 
 -- ---- numbers
 
--- what a number was before one step more
-number-before : (m : ℕ) (ns : List (Option ℕ)) (x : Option ℕ) (n o : ℕ) → n ≤ m + length ns → IsNumberOf m (ns ++ x ∷ []) n o → IsNumberOf m ns n o
-number-before m ns x n o w a =
-    elim a [
-      | inl h ↦ inl h
-      | inr h ↦
-          let l : m < n = h.0 in
-          inr (l, sym (get_or_append_left ns (x ∷ []) None (n - m - 1) (omega (arith, w, l))) ∙ h.1)
-    ]
-
--- and that of its clause
-number-last : (m : ℕ) (ns : List (Option ℕ)) (x : Option ℕ) (n o : ℕ) → n ≡ m + length ns + 1 → IsNumberOf m (ns ++ x ∷ []) n o → x ≡ Some o
-number-last m ns x n o e a =
-    elim a [
-      | inl h ↦ (let l : n ≤ m = h.0 in absurd (omega (arith, e, l)))
-      | inr h ↦ sym (get_or_push ns x None (n - m - 1) (omega (arith, e))) ∙ h.1
-    ]
-
 part-none : (cnf : List (List Lit)) → IsPartOf (length cnf) [] cnf cnf
 part-none cnf = record {
   long = omega arith;
-  there = λ n o c a e. elim a [
-    | inl h ↦ ap (named cnf) h.1 ∙ e
-    | inr h ↦ absurd (let z : None ≡ Some o = h.1 in cc)
-  ];
+  count = omega arith;
+  first = λ n c w e. e;
+  there = λ i h. absurd (omega (arith, h));
   among = λ P h. h;
 }
 
-module _ (m : ℕ) (ns : List (Option ℕ)) (ks part : List (List Lit)) (i : IsPartOf m ns ks part) where
+module _ (m : ℕ) (ps : List ℕ) (ks part : List (List Lit)) (i : IsPartOf m ps ks part) where
+  first-more : (c : List Lit) (n : ℕ) (d : List Lit) → n ≤ m → named (ks ++ c ∷ []) n ≡ Some d → named part n ≡ Some d
+  first-more c n d w h =
+      elim (named-split ks c d n h) [
+        | inl g ↦ i.first n d w g
+        | inr g ↦ (let q : n ≡ length ks + 1 = g.0 in absurd (omega (arith, q, w, i.long)))
+      ]
+
+  among-more : (c : List Lit) (P : List Lit → Bool) → list_any P (ks ++ c ∷ []) ≡ false → (list_any P part ≡ false) × (list_any P (c ∷ []) ≡ false)
+  among-more c P h = let b = any-push P ks c h in (i.among P b.0, b.1)
+
   -- a step that is kept
-  part-more : (c : List Lit) (o : ℕ) → o ≡ length part + 1 → IsPartOf m (ns ++ Some o ∷ []) (ks ++ c ∷ []) (part ++ c ∷ [])
-  part-more c o e = record {
-    long = omega (arith, length_push ks c, length_push ns (Some o), i.long);
-    there = λ n p d a h. elim (named-split ks c d n h) [
-      | inl g ↦ named-more part c d p (i.there n p d (number-before m ns (Some o) n p (omega (arith, named-within ks d n g, i.long)) a) g)
-      | inr g ↦
-          let q : n ≡ length ks + 1 = g.0 in
-          let x : Some o ≡ Some p = number-last m ns (Some o) n p (omega (arith, q, i.long)) a in
-          let y : o ≡ p = cc in
-          ap (named (part ++ c ∷ [])) (sym y ∙ e) ∙ (named-last part c ∙ ap (λ z. Some z) g.1)
+  part-more : (c : List Lit) (p : ℕ) → length ks ≡ m + p → IsPartOf m (ps ++ p ∷ []) (ks ++ c ∷ []) (part ++ c ∷ [])
+  part-more c p e = record {
+    long = omega (arith, length_push ks c, i.long);
+    count = omega (arith, length_push part c, length_push ps p, i.count);
+    first = λ n d w h. named-more part c d n (first-more c n d w h);
+    there = λ j h. elim (cases_lt j (length ps)) [
+      | inl l ↦ rw (get_or_append_left ps (p ∷ []) 0 j l) (let t = i.there j l in (t.0, named-more ks c t.0 (m + get_or ps j 0 + 1) t.1, named-more part c t.0 (m + j + 1) t.2))
+      | inr l ↦
+          let q : length ps ≡ j = omega (arith, l, h, length_push ps p) in
+          let k : length ks + 1 ≡ m + p + 1 = omega (arith, e) in
+          let o : length part + 1 ≡ m + j + 1 = omega (arith, i.count, q) in
+          rw (get_or_push ps p 0 j q) (c, ap (named (ks ++ c ∷ [])) (sym k) ∙ named-last ks c, ap (named (part ++ c ∷ [])) (sym o) ∙ named-last part c)
     ];
-    among = λ P h. let b = any-push P ks c h in list_any-append P part (c ∷ []) ∙ (ap (λ z. z || list_any P (c ∷ [])) (i.among P b.0) ∙ b.1);
+    among = λ P h. let b = among-more c P h in list_any-append P part (c ∷ []) ∙ (ap (λ z. z || list_any P (c ∷ [])) b.0 ∙ b.1);
   }
 
   -- one that is left out
-  part-less : (c : List Lit) → IsPartOf m (ns ++ None ∷ []) (ks ++ c ∷ []) part
+  part-less : (c : List Lit) → IsPartOf m ps (ks ++ c ∷ []) part
   part-less c = record {
-    long = omega (arith, length_push ks c, length_push ns None, i.long);
-    there = λ n p d a h. elim (named-split ks c d n h) [
-      | inl g ↦ i.there n p d (number-before m ns None n p (omega (arith, named-within ks d n g, i.long)) a) g
-      | inr g ↦
-          let q : n ≡ length ks + 1 = g.0 in
-          let x : None ≡ Some p = number-last m ns None n p (omega (arith, q, i.long)) a in
-          absurd (cc)
-    ];
-    among = λ P h. i.among P (any-push P ks c h).0;
+    long = omega (arith, length_push ks c, i.long);
+    count = i.count;
+    first = first-more c;
+    there = λ j h. let t = i.there j h in (t.0, named-more ks c t.0 (m + get_or ps j 0 + 1) t.1, t.2);
+    among = λ P h. (among-more c P h).0;
   }
+
+  -- the clause of a number
+  part-clause : (n o : ℕ) (c : List Lit) → IsNumberOf m ps n o → named ks n ≡ Some c → named part o ≡ Some c
+  part-clause n o c a e =
+      elim a [
+        | inl h ↦ ap (named part) h.1 ∙ i.first n c h.0 e
+        | inr h ↦
+            let t = i.there h.0 h.1 in
+            ap (named part) h.3 ∙ (t.2 ∙ (sym t.1 ∙ (ap (named ks) (sym h.2) ∙ e)))
+      ]
 
   -- ---- a step by the new numbers derives the same clause
 
   err-apart : (e : Reason) (xs : List Link) (c : List Lit) → after_links ks (Err e) xs ≡ Ok c → ⊥
   err-apart e xs c h = let z : Err e ≡ Ok c = sym (after_links-err ks e xs) ∙ h in cc
 
-  links-in : (d c : List Lit) (xs ys : List Link) → AreLinksIn m ns xs ys → after_links ks (Ok d) xs ≡ Ok c → after_links part (Ok d) ys ≡ Ok c
+  links-in : (d c : List Lit) (xs ys : List Link) → AreLinksIn m ps xs ys → after_links ks (Ok d) xs ≡ Ok c → after_links part (Ok d) ys ≡ Ok c
   links-in d c [] [] a e = e
   links-in d c [] (y ∷ ys) a e = absurd a
   links-in d c (x ∷ xs) [] a e = absurd a
@@ -181,17 +175,17 @@ module _ (m : ℕ) (ns : List (Option ℕ)) (ks part : List (List Lit)) (i : IsP
           → after_links ks (after_link d x.pivot o) xs ≡ Ok c → after_links part (after_link d y.pivot (named part y.clause)) ys ≡ Ok c
       goes None q g h = absurd (err-apart NoSuchClause xs c h)
       goes (Some f) q g h =
-          ap (λ z. after_links part (after_link d y.pivot z) ys) (i.there x.clause y.clause f a.1 q)
+          ap (λ z. after_links part (after_link d y.pivot z) ys) (part-clause x.clause y.clause f a.1 q)
           ∙ (ap (λ z. after_links part (after_link d z (Some f)) ys) a.0 ∙ after (after_link d x.pivot (Some f)) g h)
 
-  derived-in : (s t : StepView) (c : List Lit) → IsStepIn m ns s t → derived ks s ≡ Ok c → derived part t ≡ Ok c
+  derived-in : (s t : StepView) (c : List Lit) → IsStepIn m ps s t → derived ks s ≡ Ok c → derived part t ≡ Ok c
   derived-in s t c a e = goes (named ks s.start) refl e
     where
       goes : (o : Option (List Lit)) → named ks s.start ≡ o → after_links ks (started o) s.links ≡ Ok c → after_links part (started (named part t.start)) t.links ≡ Ok c
       goes None q h = absurd (err-apart NoSuchClause s.links c h)
-      goes (Some f) q h = ap (λ z. after_links part (started z) t.links) (i.there s.start t.start f a.start q) ∙ links-in f c s.links t.links a.links h
+      goes (Some f) q h = ap (λ z. after_links part (started z) t.links) (part-clause s.start t.start f a.start q) ∙ links-in f c s.links t.links a.links h
 
-  step-in : (s t : StepView) (c : List Lit) → IsStepIn m ns s t → step_result ks s ≡ Ok c → step_result part t ≡ Ok c
+  step-in : (s t : StepView) (c : List Lit) → IsStepIn m ps s t → step_result ks s ≡ Ok c → step_result part t ≡ Ok c
   step-in s t c a e =
       let b = made-ok ks s c (derived ks s) refl e in
       made-step part t c (record { derives = derived-in s t c a b.derives; apart = b.apart; new = i.among _ b.new })
@@ -199,31 +193,59 @@ module _ (m : ℕ) (ns : List (Option ℕ)) (ks part : List (List Lit)) (i : IsP
 -- ---- logs
 
 pub kept-none : (cnf : List (List Lit)) → IsKept cnf [] [] []
-kept-none cnf = λ known e. let w : cnf ≡ known = cc in (cnf, refl, omega arith, subst (λ z. IsPartOf (length cnf) [] z cnf) w (part-none cnf))
+kept-none cnf = λ known e. let w : cnf ≡ known = cc in (cnf, refl, subst (λ z. IsPartOf (length cnf) [] z cnf) w (part-none cnf))
 
-module _ (cnf : List (List Lit)) (ss ts : List StepView) (ns : List (Option ℕ)) (k : IsKept cnf ss ts ns) (s : StepView) where
-  pub kept-more : (t : StepView) (o : ℕ) → IsStepIn (length cnf) ns s t → o ≡ length cnf + length ts + 1 → IsKept cnf (ss ++ s ∷ []) (ts ++ t ∷ []) (ns ++ Some o ∷ [])
-  kept-more t o a e = λ known h.
+-- each step of an accepted log adds a clause
+steps-length : (ss : List StepView) (ks : List (List Lit)) (n : ℕ) (known : List (List Lit)) → after_steps ks n ss ≡ Ok known → length known ≡ length ks + length ss
+steps-length [] ks n known e =
+    let w : ks ≡ known = cc in
+    let q : length ks ≡ length known = ap (λ (z : List (List Lit)). length z) w in
+    omega (arith, q)
+steps-length (x ∷ ss) ks n known e = goes (step_result ks x) (λ c g. steps-length ss (ks ++ c ∷ []) (n + 1) known g) e
+  where
+    goes : (r : Result (List Lit) Reason) → ((c : List Lit) → after_steps (ks ++ c ∷ []) (n + 1) ss ≡ Ok known → length known ≡ length (ks ++ c ∷ []) + length ss)
+        → (elim r as (λ w. Result (List (List Lit)) (ℕ × Reason)) [ Ok c ↦ after_steps (ks ++ c ∷ []) (n + 1) ss | Err f ↦ Err (n, f) ]) ≡ Ok known
+        → length known ≡ length ks + length (x ∷ ss)
+    goes (Err f) g h = absurd (let z : Err (n, f) ≡ Ok known = h in cc)
+    goes (Ok c) g h = let q = g c h in omega (arith, q, length_push ks c)
+
+module _ (cnf : List (List Lit)) (ts : List StepView) (ps : List ℕ) where
+  pub kept-more : (ss : List StepView) (s t : StepView) → IsStepIn (length cnf) ps s t → IsKept cnf ss ts ps → IsKept cnf (ss ++ s ∷ []) (ts ++ t ∷ []) (ps ++ length ss ∷ [])
+  kept-more ss s t a k = λ known h.
       let l = after-last ss cnf 1 s known h in
       let r = k l.before l.first in
-      let x : step_result r.0 t ≡ Ok l.clause = step-in (length cnf) ns l.before r.0 r.3 s t l.clause a l.last in
-      let n : o ≡ length r.0 + 1 = omega (arith, e, r.2) in (
+      let x : step_result r.0 t ≡ Ok l.clause = step-in (length cnf) ps l.before r.0 r.2 s t l.clause a l.last in (
         r.0 ++ l.clause ∷ [],
         after_steps-push ts cnf 1 t r.0 l.clause r.1 x,
-        omega (arith, r.2, length_push r.0 l.clause, length_push ts t),
-        subst (λ z. IsPartOf (length cnf) (ns ++ Some o ∷ []) z (r.0 ++ l.clause ∷ [])) l.all (part-more (length cnf) ns l.before r.0 r.3 l.clause o n),
+        subst (λ z. IsPartOf (length cnf) (ps ++ length ss ∷ []) z (r.0 ++ l.clause ∷ [])) l.all
+            (part-more (length cnf) ps l.before r.0 r.2 l.clause (length ss) (steps-length ss cnf 1 l.before l.first)),
       )
 
-  pub kept-less : IsKept cnf (ss ++ s ∷ []) ts (ns ++ None ∷ [])
-  kept-less = λ known h.
+  pub kept-less : (ss : List StepView) (s : StepView) → IsKept cnf ss ts ps → IsKept cnf (ss ++ s ∷ []) ts ps
+  kept-less ss s k = λ known h.
       let l = after-last ss cnf 1 s known h in
       let r = k l.before l.first in
-      (r.0, r.1, r.2, subst (λ z. IsPartOf (length cnf) (ns ++ None ∷ []) z r.0) l.all (part-less (length cnf) ns l.before r.0 r.3 l.clause))
+      (r.0, r.1, subst (λ z. IsPartOf (length cnf) ps z r.0) l.all (part-less (length cnf) ps l.before r.0 r.2 l.clause))
+
+  -- steps that are left out
+  kept-later : (more ss : List StepView) → IsKept cnf ss ts ps → IsKept cnf (ss ++ more) ts ps
+  kept-later [] ss k = subst (λ (z : List StepView). IsKept cnf z ts ps) (sym (append-nil ss)) k
+  kept-later (x ∷ more) ss k = subst (λ (z : List StepView). IsKept cnf z ts ps) (append_assoc ss (x ∷ []) more) (kept-later more (ss ++ x ∷ []) (kept-less ss x k))
+
+  -- up to a later place
+  pub kept-up_to : (ss : List StepView) (i j : ℕ) → i ≤ j → IsKept cnf (take i ss) ts ps → IsKept cnf (take j ss) ts ps
+  kept-up_to ss i j o k =
+      let e : take i ss ++ drop i (take j ss) ≡ take j ss = ap (λ (z : List StepView). z ++ drop i (take j ss)) (sym (take-take i j ss o)) ∙ take-append-drop i (take j ss) in
+      subst (λ (z : List StepView). IsKept cnf z ts ps) e (kept-later (drop i (take j ss)) (take i ss) k)
+
+  -- up to the end
+  pub kept-whole : (ss : List StepView) (i : ℕ) → IsKept cnf (take i ss) ts ps → IsKept cnf ss ts ps
+  kept-whole ss i k = subst (λ (z : List StepView). IsKept cnf z ts ps) (take-append-drop i ss) (kept-later (drop i ss) (take i ss) k)
 
 -- the goal of what was kept
-pub kept-goal : (cnf : List (List Lit)) (assume : List Lit) (ss ts : List StepView) (ns : List (Option ℕ)) (n o : ℕ) → IsKept cnf ss ts ns → IsNumberOf (length cnf) ns n o
+pub kept-goal : (cnf : List (List Lit)) (assume : List Lit) (ss ts : List StepView) (ps : List ℕ) (n o : ℕ) → IsKept cnf ss ts ps → IsNumberOf (length cnf) ps n o
     → verdict_of cnf assume ss (Some n) ≡ Accepted → verdict_of cnf assume ts (Some o) ≡ Accepted
-kept-goal cnf assume ss ts ns n o k a v = whole (after_steps cnf 1 ss) refl v
+kept-goal cnf assume ss ts ps n o k a v = whole (after_steps cnf 1 ss) refl v
   where
     there : (known : List (List Lit)) → after_steps cnf 1 ss ≡ Ok known → (c : Option (List Lit)) → named known n ≡ c → (b : Bool) → is_denied assume c ≡ b
         → cond b Accepted (Rejected (length ss + 1) Reason.NotGoal) ≡ Accepted → verdict_of cnf assume ts (Some o) ≡ Accepted
@@ -231,7 +253,7 @@ kept-goal cnf assume ss ts ns n o k a v = whole (after_steps cnf 1 ss) refl v
     there known e (Some c) q false d h = absurd (let z : Rejected (length ss + 1) Reason.NotGoal ≡ Accepted = h in cc)
     there known e (Some c) q true d h =
         let r = k known e in
-        accepted-goal cnf assume ts r.0 o c r.1 (r.3.there n o c a q) d
+        accepted-goal cnf assume ts r.0 o c r.1 (part-clause (length cnf) ps known r.0 r.2 n o c a q) d
 
     whole : (r : Result (List (List Lit)) (ℕ × Reason)) → after_steps cnf 1 ss ≡ r
         → ◌≡◌ {A = Verdict} (elim r [ Ok known ↦ goal_verdict known (length ss + 1) assume (Some n) | Err f ↦ Rejected f.0 f.1 ]) Accepted → verdict_of cnf assume ts (Some o) ≡ Accepted
@@ -240,38 +262,40 @@ kept-goal cnf assume ss ts ns n o k a v = whole (after_steps cnf 1 ss) refl v
 
 -- ---- what the code finds
 
-pub number-low : (m : ℕ) (ns : List (Option ℕ)) (n : ℕ) → n ≤ m → IsNumberOf m ns n n
-number-low m ns n l = inl (l, refl)
+pub number-low : (m : ℕ) (ps : List ℕ) (n : ℕ) → n ≤ m → IsNumberOf m ps n n
+number-low m ps n l = inl (l, refl)
 
-pub number-there : (m : ℕ) (ns : List (Option ℕ)) (n p : ℕ) (r : Option ℕ) → r ≡ get_or ns p None → m < n → p ≡ n - m - 1 → IfSome r (IsNumberOf m ns n)
-number-there m ns n p None q l e = tt
-number-there m ns n p (Some o) q l e = inr (l, ap (λ z. get_or ns z None) (sym e) ∙ sym q)
+pub number-there : (m : ℕ) (ps : List ℕ) (n p i : ℕ) (r : Option ℕ) → n ≡ m + p + 1 → (i < length ps) × (get_or ps i 0 ≡ p) → IfSome r (λ o. o ≡ m + i + 1) → IfSome r (IsNumberOf m ps n)
+number-there m ps n p i None e h q = tt
+number-there m ps n p i (Some o) e h q = inr (i, h.0, e ∙ ap (λ z. m + z + 1) (sym h.1), q)
 
-pub links-more : (m : ℕ) (ns : List (Option ℕ)) (xs ys : List Link) (x y : Link) → AreLinksIn m ns xs ys → y.pivot ≡ x.pivot → IsNumberOf m ns x.clause y.clause
-    → AreLinksIn m ns (xs ++ x ∷ []) (ys ++ y ∷ [])
-links-more m ns [] [] x y a p n = (p, n, tt)
-links-more m ns [] (z ∷ ys) x y a p n = absurd a
-links-more m ns (z ∷ xs) [] x y a p n = absurd a
-links-more m ns (z ∷ xs) (w ∷ ys) x y a p n = (a.0, a.1, links-more m ns xs ys x y a.2 p n)
+pub links-more : (m : ℕ) (ps : List ℕ) (xs ys : List Link) (x y : Link) → AreLinksIn m ps xs ys → y.pivot ≡ x.pivot → IsNumberOf m ps x.clause y.clause
+    → AreLinksIn m ps (xs ++ x ∷ []) (ys ++ y ∷ [])
+links-more m ps [] [] x y a p n = (p, n, tt)
+links-more m ps [] (z ∷ ys) x y a p n = absurd a
+links-more m ps (z ∷ xs) [] x y a p n = absurd a
+links-more m ps (z ∷ xs) (w ∷ ys) x y a p n = (a.0, a.1, links-more m ps xs ys x y a.2 p n)
 
--- a step that is left out, however that ends
-pub left_out : {A : Type 0} {E : Type 0} (r : Result A E) (m : ℕ) (ts : List StepView) (ns ms : List (Option ℕ)) (s : StepView) → IfOk r (λ _. ms ≡ ns ++ None ∷ [])
-    → IfOk r (λ _. (cnf : List (List Lit)) (ss : List StepView) → length cnf ≡ m → IsKept cnf ss ts ns → IsKept cnf (ss ++ s ∷ []) ts ms)
-left_out (Err e) m ts ns ms s h = tt
-left_out (Ok x) m ts ns ms s h = λ cnf ss e k. subst (λ z. IsKept cnf (ss ++ s ∷ []) ts z) (sym h) (kept-less cnf ss ts ns k s)
+-- a step that is kept
+pub keep_more : (m : ℕ) (ts us : List StepView) (ps qs : List ℕ) (s t : StepView) (p : ℕ) → us ≡ ts ++ t ∷ [] → qs ≡ ps ++ p ∷ [] → IsStepIn m ps s t
+    → (cnf : List (List Lit)) (ss : List StepView) → length cnf ≡ m → length ss ≡ p → IsKept cnf ss ts ps → IsKept cnf (ss ++ s ∷ []) us qs
+keep_more m ts us ps qs s t p u v a cnf ss l e k =
+    let b : IsStepIn (length cnf) ps s t = subst (λ z. IsStepIn z ps s t) (sym l) a in
+    let w : IsKept cnf (ss ++ s ∷ []) (ts ++ t ∷ []) (ps ++ length ss ∷ []) = kept-more cnf ts ps ss s t b k in
+    let x : IsKept cnf (ss ++ s ∷ []) (ts ++ t ∷ []) qs = subst (λ z. IsKept cnf (ss ++ s ∷ []) (ts ++ t ∷ []) z) (ap (λ (z : ℕ). ps ++ z ∷ []) e ∙ sym v) w in
+    subst (λ z. IsKept cnf (ss ++ s ∷ []) z qs) (sym u) x
 
--- and one that is kept
-pub keep_more : (m : ℕ) (ts us : List StepView) (ns ms : List (Option ℕ)) (s t : StepView) (o : ℕ) → us ≡ ts ++ t ∷ [] → ms ≡ ns ++ Some o ∷ [] → IsStepIn m ns s t → o ≡ m + length ts + 1
-    → (cnf : List (List Lit)) (ss : List StepView) → length cnf ≡ m → IsKept cnf ss ts ns → IsKept cnf (ss ++ s ∷ []) us ms
-keep_more m ts us ns ms s t o u v a e cnf ss l k =
-    let b : IsStepIn (length cnf) ns s t = subst (λ z. IsStepIn z ns s t) (sym l) a in
-    let w : IsKept cnf (ss ++ s ∷ []) (ts ++ t ∷ []) (ns ++ Some o ∷ []) = kept-more cnf ss ts ns k s t o b (omega (arith, e, l)) in
-    subst (λ z. IsKept cnf (ss ++ s ∷ []) z ms) (sym u) (subst (λ z. IsKept cnf (ss ++ s ∷ []) (ts ++ t ∷ []) z) (sym v) w)
+-- and that at a place, behind those that were left out
+pub keep_behind : (cnf : List (List Lit)) (ss ts us : List StepView) (ps qs : List ℕ) (s : StepView) (i p : ℕ) → i ≤ p → p < length ss → s ≡ get_or ss p s
+    → (length (take p ss) ≡ p → IsKept cnf (take p ss) ts ps → IsKept cnf (take p ss ++ s ∷ []) us qs) → IsKept cnf (take i ss) ts ps → IsKept cnf (take (p + 1) ss) us qs
+keep_behind cnf ss ts us ps qs s i p o l g f k =
+    let w : IsKept cnf (take p ss ++ s ∷ []) us qs = f (length-take-le p ss (omega (arith, l))) (kept-up_to cnf ts ps ss i p o k) in
+    subst (λ (z : List StepView). IsKept cnf z us qs) (sym (take_more ss p s l ∙ ap (λ (z : StepView). take p ss ++ z ∷ []) (sym g))) w
 
 -- what was kept refutes as all did
-pub kept_refutes : (m : ℕ) (ss ts : List StepView) (ns : List (Option ℕ)) (n o : ℕ) → ((cnf : List (List Lit)) → length cnf ≡ m → IsKept cnf ss ts ns) → IsNumberOf m ns n o
+pub kept_refutes : (m : ℕ) (ss ts : List StepView) (ps : List ℕ) (n o : ℕ) → ((cnf : List (List Lit)) → length cnf ≡ m → IsKept cnf ss ts ps) → IsNumberOf m ps n o
     → (cnf : List (List Lit)) (assume : List Lit) → length cnf ≡ m → verdict_of cnf assume ss (Some n) ≡ Accepted → IsRefutation cnf assume (record { steps = ts; goal = Some o })
-kept_refutes m ss ts ns n o k a cnf assume l v = (refl, kept-goal cnf assume ss ts ns n o (k cnf l) (subst (λ z. IsNumberOf z ns n o) (sym l) a) v)
+kept_refutes m ss ts ps n o k a cnf assume l v = (refl, kept-goal cnf assume ss ts ps n o (k cnf l) (subst (λ z. IsNumberOf z ps n o) (sym l) a) v)
 
 pub refutes_by : {E : Type 0} (r : Result RefutationView E) (m : ℕ) (ss : List StepView) (n : ℕ) (cnf : List (List Lit)) (assume : List Lit)
     → IfOk r (λ x. (ks : List (List Lit)) (ls : List Lit) → length ks ≡ m → verdict_of ks ls ss (Some n) ≡ Accepted → IsRefutation ks ls x)

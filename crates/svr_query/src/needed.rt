@@ -1,6 +1,6 @@
 // The steps of a log that its goal needs.
 
-ghost use Rattle.std.specs.Prelude.{◌≡◌, ◌+◌, ◌++◌, ◌∷◌, [], List, None, Some, IfOk, IfSome, length, slice_index_or};
+ghost use Rattle.std.specs.Prelude.{◌≡◌, ◌+◌, ◌++◌, ◌∷◌, ◌<◌, ◌≤◌, [], List, None, Some, IfNone, IfOk, IfSome, length, slice_index_or, take};
 ghost use Rattle.svr_chain.specs.declared.clause.Lit.{Lit};
 ghost use Rattle.svr_chain.specs.declared.log.Verdict.TheVariants.{Accepted};
 ghost use Rattle.svr_chain.specs.Log.{verdict_of};
@@ -10,99 +10,76 @@ ghost use Rattle.svr_query.specs.Needed.{AreLinksIn, IsKept, IsNumberOf, IsStepI
 
 use crate::memory::NoMemory;
 use std::alloc::Global;
+use std::collections::BTreeSet;
 use svr_chain::{Link, Refutation, Step};
 
-/// Marks the step whose clause has a number, if one has. The clauses of the formula have the first numbers.
-fn mark(marks: &mut [bool], clauses: u64, number: u64) {
+/// The place of the step that derived the clause of a number. The clauses of the formula have the first numbers.
+fn place_of(clauses: u64, number: u64) -> Option<usize>
+    ensures some { IfSome result (λ p. number ≡ clauses + p + 1) }
+    ensures none { IfNone result (number ≤ clauses) }
+{
     if number <= clauses {
-        return;
+        return None;
     }
-    if let Some(there) = marks.get_mut((number - clauses - 1) as usize) {
-        *there = true;
-    }
+    Some((number - clauses - 1) as usize)
 }
 
-/// Marks the steps whose clauses a step uses.
-fn mark_used(marks: &mut [bool], clauses: u64, step: &Step) {
-    mark(marks, clauses, step.start);
+/// Wants the step that derived a clause, unless it is one of the formula.
+fn want(wanted: &mut BTreeSet<usize>, clauses: u64, number: u64) -> Result<(), NoMemory> {
+    if let Some(place) = place_of(clauses, number) {
+        wanted.insert(place)?;
+    }
+    Ok(())
+}
+
+/// Wants the steps whose clauses a step uses.
+fn want_used(wanted: &mut BTreeSet<usize>, clauses: u64, step: &Step) -> Result<(), NoMemory> {
+    want(wanted, clauses, step.start)?;
     for link in &step.links {
-        mark(marks, clauses, link.clause);
+        want(wanted, clauses, link.clause)?;
     }
+    Ok(())
 }
 
-fn is_marked(marks: &[bool], place: usize) -> bool {
-    match marks.get(place) {
-        Some(mark) => *mark,
-        None => false,
-    }
-}
-
-/// Marks what marked steps use, from the last step to the first.
-fn mark_back(marks: &mut [bool], clauses: u64, steps: &[Step]) {
-    let mut place = steps.len();
-    for step in steps.iter().rev() {
-        place = place.saturating_sub(1);
-        if is_marked(marks, place) {
-            mark_used(marks, clauses, step);
+/// The places of the wanted steps and of all that they need, the last first. A step uses clauses of earlier ones alone, so that each place comes once.
+fn gathered(
+    alloc: Global,
+    clauses: u64,
+    steps: &[Step],
+    wanted: &mut BTreeSet<usize>,
+) -> Result<Vec<usize>, NoMemory> {
+    let mut places = Vec::new(alloc);
+    for _ in 0..steps.len() {
+        let Some(place) = wanted.pop_last() else {
+            break;
+        };
+        if let Some(step) = steps.get(place) {
+            places.push(place)?;
+            want_used(wanted, clauses, step)?;
         }
     }
+    Ok(places)
 }
 
-/// The number at a place, if there is one.
-fn kept_at(numbers: &[Option<u64>], place: usize) -> Option<u64>
-    ensures { result ≡ slice_index_or numbers.now place None }
-{
-    match numbers.get(place) {
-        Some(number) => *number,
-        None => None,
-    }
-}
-
-/// The number that a clause has among what was kept, where it was. Those of the formula keep theirs.
-fn number_in(clauses: u64, numbers: &[Option<u64>], number: u64) -> Option<u64>
-    ensures { IfSome result (IsNumberOf clauses numbers.now number) }
-{
-    if number <= clauses {
-        return Some(number);
-    }
-    kept_at(numbers, (number - clauses - 1) as usize)
-}
-
-/// The links by these numbers, where each clause has one.
-fn links_in(
+/// The places of the steps that one needs which stands behind them, the last first.
+fn needed_by(
     alloc: Global,
     clauses: u64,
-    numbers: &[Option<u64>],
-    links: &[Link],
-) -> Result<Option<Vec<Link>>, NoMemory>
-    ensures { IfOk result (λ o. IfSome o (λ found. AreLinksIn clauses numbers.now links.now found.items)) }
-{
-    let mut found = Vec::new(alloc);
-    for link in links {
-        let Some(clause) = number_in(clauses, numbers, link.clause) else {
-            return Ok(None);
-        };
-        let pivot = link.pivot;
-        found.push(Link { pivot, clause })?;
-    }
-    Ok(Some(found))
+    steps: &[Step],
+    last: &Step,
+) -> Result<Vec<usize>, NoMemory> {
+    let mut wanted = BTreeSet::new(alloc);
+    want_used(&mut wanted, clauses, last)?;
+    gathered(alloc, clauses, steps, &mut wanted)
 }
 
-/// The step by these numbers, where each clause that it uses has one.
-fn step_in(
-    alloc: Global,
-    clauses: u64,
-    numbers: &[Option<u64>],
-    step: &Step,
-) -> Result<Option<Step>, NoMemory>
-    ensures { IfOk result (λ o. IfSome o (IsStepIn clauses numbers.now step.now)) }
+/// Where a place stands among rising ones, if it does.
+fn index_of(places: &[usize], place: usize) -> Option<usize>
+    ensures { IfSome result (λ i. (i < length places.now) × (slice_index_or places.now i 0 ≡ place)) }
 {
-    let Some(start) = number_in(clauses, numbers, step.start) else {
-        return Ok(None);
-    };
-    match links_in(alloc, clauses, numbers, step.links.as_slice())? {
-        Some(links) => Ok(Some(Step { start, links })),
-        None => Ok(None),
+    match places.binary_search(&place) {
+        Ok(index) => Some(index),
+        Err(_) => None,
     }
 }
 
@@ -118,60 +95,115 @@ fn number_behind(clauses: u64, steps: usize) -> Option<u64>
     }
 }
 
-/// One step more of the log, which is left out.
-fn leave_out(numbers: &mut Vec<Option<u64>>) -> Result<(), NoMemory>
-    ensures { IfOk result (λ _. numbers.new.items ≡ numbers.old.items ++ None ∷ []) }
+/// The number that a clause has among what was kept, the steps at these places. The clauses of the formula keep theirs.
+fn number_in(clauses: u64, places: &[usize], number: u64) -> Option<u64>
+    ensures { IfSome result (IsNumberOf clauses places.now number) }
 {
-    numbers.push(None)?;
-    Ok(())
+    let Some(place) = place_of(clauses, number) else {
+        return Some(number);
+    };
+    match index_of(places, place) {
+        Some(index) => number_behind(clauses, index),
+        None => None,
+    }
 }
 
-/// One step more of the log, which is kept where it is needed, unless a clause that it uses was left out.
+/// The links by these numbers, where each clause has one.
+fn links_in(
+    alloc: Global,
+    clauses: u64,
+    places: &[usize],
+    links: &[Link],
+) -> Result<Option<Vec<Link>>, NoMemory>
+    ensures { IfOk result (λ o. IfSome o (λ found. AreLinksIn clauses places.now links.now found.items)) }
+{
+    let mut found = Vec::new(alloc);
+    for link in links {
+        let Some(clause) = number_in(clauses, places, link.clause) else {
+            return Ok(None);
+        };
+        let pivot = link.pivot;
+        found.push(Link { pivot, clause })?;
+    }
+    Ok(Some(found))
+}
+
+/// The step by these numbers, where each clause that it uses has one.
+fn step_in(
+    alloc: Global,
+    clauses: u64,
+    places: &[usize],
+    step: &Step,
+) -> Result<Option<Step>, NoMemory>
+    ensures { IfOk result (λ o. IfSome o (IsStepIn clauses places.now step.now)) }
+{
+    let Some(start) = number_in(clauses, places, step.start) else {
+        return Ok(None);
+    };
+    match links_in(alloc, clauses, places, step.links.as_slice())? {
+        Some(links) => Ok(Some(Step { start, links })),
+        None => Ok(None),
+    }
+}
+
+/// One step more of the log, behind those before its place. It is kept, unless a clause that it uses was left out.
 fn keep(
     alloc: Global,
     clauses: u64,
     kept: &mut Vec<Step>,
-    numbers: &mut Vec<Option<u64>>,
+    places: &mut Vec<usize>,
     step: &Step,
-    needed: bool,
+    place: usize,
 ) -> Result<(), NoMemory>
-    ensures { IfOk result (λ _. (cnf : List (List Lit)) (ss : List StepView) → length cnf ≡ clauses
-        → IsKept cnf ss kept.old.items numbers.old.items → IsKept cnf (ss ++ step.now ∷ []) kept.new.items numbers.new.items) }
+    ensures { IfOk result (λ _. (cnf : List (List Lit)) (ss : List StepView) → length cnf ≡ clauses → length ss ≡ place
+        → IsKept cnf ss kept.old.items places.old.items → IsKept cnf (ss ++ step.now ∷ []) kept.new.items places.new.items) }
 {
-    if !needed {
-        return leave_out(numbers);
-    }
-    let Some(number) = number_behind(clauses, kept.len()) else {
-        return leave_out(numbers);
-    };
-    match step_in(alloc, clauses, numbers.as_slice(), step)? {
+    match step_in(alloc, clauses, places.as_slice(), step)? {
         Some(copy) => {
             kept.push(copy)?;
-            numbers.push(Some(number))?;
+            places.push(place)?;
             Ok(())
         }
-        None => leave_out(numbers),
+        None => Ok(()),
     }
 }
 
-/// All steps of the log in turn, of which the marked ones are kept.
-fn keep_marked(
+/// Keeps the step at a place, where it is behind the first `passed` ones. Tells how many were passed then.
+fn keep_at(
     alloc: Global,
     clauses: u64,
-    marks: &[bool],
     steps: &[Step],
     kept: &mut Vec<Step>,
-    numbers: &mut Vec<Option<u64>>,
+    places: &mut Vec<usize>,
+    passed: usize,
+    place: usize,
+) -> Result<usize, NoMemory>
+    ensures { IfOk result (λ n. (cnf : List (List Lit)) → length cnf ≡ clauses
+        → IsKept cnf (take passed steps.now) kept.old.items places.old.items → IsKept cnf (take n steps.now) kept.new.items places.new.items) }
+{
+    if place < passed || place >= steps.len() {
+        return Ok(passed);
+    }
+    keep(alloc, clauses, kept, places, &steps[place], place)?;
+    Ok(place + 1)
+}
+
+/// Keeps the steps at these places, of which the last stands first, and leaves the others out.
+fn keep_needed(
+    alloc: Global,
+    clauses: u64,
+    steps: &[Step],
+    kept: &mut Vec<Step>,
+    places: &mut Vec<usize>,
+    needed: &[usize],
 ) -> Result<(), NoMemory>
     requires kept { kept.old.items ≡ [] }
-    requires numbers { numbers.old.items ≡ [] }
-    ensures { IfOk result (λ _. (cnf : List (List Lit)) → length cnf ≡ clauses → IsKept cnf steps.now kept.new.items numbers.new.items) }
+    requires places { places.old.items ≡ [] }
+    ensures { IfOk result (λ _. (cnf : List (List Lit)) → length cnf ≡ clauses → IsKept cnf steps.now kept.new.items places.new.items) }
 {
-    let mut place: usize = 0;
-    for step in steps {
-        let needed = is_marked(marks, place);
-        keep(alloc, clauses, kept, numbers, step, needed)?;
-        place = place.saturating_add(1);
+    let mut passed = 0;
+    for place in needed.iter().rev() {
+        passed = keep_at(alloc, clauses, steps, kept, places, passed, *place)?;
     }
     Ok(())
 }
@@ -189,7 +221,7 @@ pub fn copy_steps(alloc: Global, steps: &[Step]) -> Result<Vec<Step>, NoMemory>
     Ok(copies)
 }
 
-/// The refutation whose goal is a clause of the log, or of the formula, which has so many. The marks need not be right: where they leave the goal out, all steps stay.
+/// The refutation whose goal is a clause of the log, or of the formula, which has so many. What is gathered need not be all that it needs: where the goal is left out, all steps stay.
 pub fn refutation_by(
     alloc: Global,
     clauses: u64,
@@ -199,13 +231,15 @@ pub fn refutation_by(
     ensures { IfOk result (λ r. (cnf : List (List Lit)) (assume : List Lit) → length cnf ≡ clauses
         → verdict_of cnf assume steps.now (Some goal) ≡ Accepted → IsRefutation cnf assume r) }
 {
-    let mut marks = vec![in alloc; false; steps.len()]?;
-    mark(&mut marks, clauses, goal);
-    mark_back(&mut marks, clauses, steps);
+    let last = Step {
+        start: goal,
+        links: Vec::new(alloc),
+    };
+    let needed = needed_by(alloc, clauses, steps, &last)?;
     let mut kept = Vec::new(alloc);
-    let mut numbers = Vec::new(alloc);
-    keep_marked(alloc, clauses, &marks, steps, &mut kept, &mut numbers)?;
-    match number_in(clauses, numbers.as_slice(), goal) {
+    let mut places = Vec::new(alloc);
+    keep_needed(alloc, clauses, steps, &mut kept, &mut places, &needed)?;
+    match number_in(clauses, places.as_slice(), goal) {
         Some(number) => Ok(Refutation {
             steps: kept,
             goal: Some(number),
@@ -231,14 +265,12 @@ pub fn refutation_with(
     ensures { IfOk result (λ r. (cnf : List (List Lit)) (assume : List Lit) → length cnf ≡ clauses
         → verdict_of cnf assume (steps.now ++ last ∷ []) (Some goal) ≡ Accepted → IsRefutation cnf assume r) }
 {
-    let mut marks = vec![in alloc; false; steps.len()]?;
-    mark_used(&mut marks, clauses, &last);
-    mark_back(&mut marks, clauses, steps);
+    let needed = needed_by(alloc, clauses, steps, &last)?;
     let mut kept = Vec::new(alloc);
-    let mut numbers = Vec::new(alloc);
-    keep_marked(alloc, clauses, &marks, steps, &mut kept, &mut numbers)?;
-    keep(alloc, clauses, &mut kept, &mut numbers, &last, true)?;
-    match number_in(clauses, numbers.as_slice(), goal) {
+    let mut places = Vec::new(alloc);
+    keep_needed(alloc, clauses, steps, &mut kept, &mut places, &needed)?;
+    keep(alloc, clauses, &mut kept, &mut places, &last, steps.len())?;
+    match number_in(clauses, places.as_slice(), goal) {
         Some(number) => Ok(Refutation {
             steps: kept,
             goal: Some(number),

@@ -3,4 +3,4 @@ use Rattle.svr_query.specs.Needed.{AreLinksIn}
 use Rattle.svr_query.proofs.needed.links_in.Given as goal
 
 abbrev pub invariant-loop-link : goal.invariant-loop-link
-invariant-loop-link l = AreLinksIn l.clauses l.numbers (take l.link-index l.links) l.found.items
+invariant-loop-link l = AreLinksIn l.clauses l.places (take l.link-index l.links) l.found.items

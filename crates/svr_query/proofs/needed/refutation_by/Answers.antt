@@ -7,7 +7,7 @@ use Rattle.svr_query.proofs.needed.refutation_by.Goals as goal
 
 pub returns-in-Some : goal.returns-in-Some
 returns-in-Some c =
-    kept_refutes c.args.clauses c.args.steps.now c.keep_marked.new.kept.items c.keep_marked.new.numbers.items c.args.goal c.in-Some.number c.in_ok-keep_marked.ensures
+    kept_refutes c.args.clauses c.args.steps.now c.keep_needed.new.kept.items c.keep_needed.new.places.items c.args.goal c.in-Some.number c.in_ok-keep_needed.ensures
     (rw c.as_slice.ensures.value at c.in-Some.ensures)
 
 pub returns : goal.returns

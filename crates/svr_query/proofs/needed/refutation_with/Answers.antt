@@ -7,8 +7,8 @@ use Rattle.svr_query.proofs.needed.refutation_with.Goals as goal
 
 pub returns-in-Some : goal.returns-in-Some
 returns-in-Some c =
-    kept_refutes c.args.clauses (c.args.steps.now ++ c.args.last ∷ []) c.keep.new.kept.items c.keep.new.numbers.items c.args.goal c.in-Some.number
-    (λ cnf e. c.in_ok-keep.ensures cnf c.args.steps.now e (c.in_ok-keep_marked.ensures cnf e)) (rw c.as_slice.ensures.value at c.in-Some.ensures)
+    kept_refutes c.args.clauses (c.args.steps.now ++ c.args.last ∷ []) c.keep.new.kept.items c.keep.new.places.items c.args.goal c.in-Some.number
+    (λ cnf e. c.in_ok-keep.ensures cnf c.args.steps.now e refl (c.in_ok-keep_needed.ensures cnf e)) (rw c.as_slice.ensures.value at c.in-Some.ensures)
 
 pub returns-in_ok-push-in-None : goal.returns-in_ok-push-in-None
 returns-in_ok-push-in-None c = λ cnf assume e v. (
