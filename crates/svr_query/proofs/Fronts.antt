@@ -7,11 +7,11 @@ use Rattle.std.proofs.lemmas.List.Folds.{list_all-append}
 use Rattle.svr_chain.specs.declared.clause.Lit.{Lit}
 use Rattle.svr_chain.proofs.ClauseLemmas.{all-weaker}
 use Rattle.svr_trail.specs.declared.Entry.{Entry}
-use Rattle.svr_trail.specs.Trail.{IsGrown, value_in}
+use Rattle.svr_trail.specs.Trail.{Each, IsGrown, value_in}
 use Rattle.svr_query.specs.declared.run.Seen.{Seen}
-use Rattle.svr_query.specs.Logged.{is_true, are_true}
+use Rattle.svr_query.specs.Logged.{IsAsked, is_true, are_true}
 use Rattle.svr_query.specs.Found.{AreSeen}
-use Rattle.svr_query.proofs.Asked.{true-grows}
+use Rattle.svr_query.proofs.Asked.{asked-grown, asked-take, true-grows}
 
 -- what the first entries make true, all make true
 pub front-true : (es : List Entry) (n : ℕ) (ls : List Lit) → n ≤ length es → are_true (take n es) ls ≡ true → are_true es ls ≡ true
@@ -64,3 +64,12 @@ pub front-of : (es fs : List Entry) (n : ℕ) → n ≤ length es → fs ≡ tak
 front-of es fs n o e =
     let l : length fs ≡ n = ap (λ z. length z) e ∙ length-take-le n es o in
     (omega (arith, l, o), e ∙ ap (λ m. take m es) (sym l))
+
+-- where a clause is learned the trail grows up to a false one, its first n entries are kept, and it grows again
+module _ (assume : List Lit) {ks ms : List (List Lit)} {first es new : List Entry} (n : ℕ)
+    (p : IsGrown ks first es) (o : n ≤ length es) (g : IsGrown ms (take n es) new) where
+  pub asked-learned : Each (IsAsked assume) first → Each (IsAsked assume) new
+  asked-learned a = asked-grown assume ms (take n es) new (asked-take assume n es o (asked-grown assume ks first es a p)) g
+
+  pub seen-learned : {a : Seen} (b : Seen) → AreSeen first assume a → b.entries ≤ n → (b ≡ a) ⊎ (b.lits ≡ 0) → AreSeen new assume b
+  seen-learned {a} b h w e = seen-grown assume ms (take n es) new b g (seen-kept assume es n a b o w e (seen-grown assume ks first es a p h))

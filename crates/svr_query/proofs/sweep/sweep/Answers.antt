@@ -1,18 +1,18 @@
-use Rattle.std.proofs.Common.{◌≡◌, ◌∙◌, sym, ap, subst, take, ℕ, ◌+◌, ◌-◌, ◌<◌, ◌∷◌, ◌++◌, [], List, None, Some, true, false, length, arith, inl, inr, refl, All}
+use Rattle.std.proofs.Common.{◌≡◌, ◌∙◌, sym, ap, subst, take, ℕ, ◌+◌, ◌-◌, ◌<◌, ◌∷◌, ◌++◌, [], List, None, true, false, length, arith, inl, inr, refl, All}
 use Rattle.std.specs.Prelude.{slice_index, IsSome}
 use Rattle.std.proofs.lemmas.List.{length_push, take-append-le, take_all}
 use Rattle.svr_chain.specs.declared.clause.Lit.{Lit}
 use Rattle.svr_chain.specs.Views.{StepView}
-use Rattle.svr_chain.specs.Clauses.{flip, has, IsWithin, AreWithin}
+use Rattle.svr_chain.specs.Clauses.{has, IsWithin, AreWithin}
 use Rattle.svr_chain.specs.Log.{are_denied}
 use Rattle.svr_trail.specs.declared.Entry.{Entry}
 use Rattle.svr_chain.specs.Same.{SameClauses}
-use Rattle.svr_trail.specs.Trail.{Each, IsClosed, sign_at, value_in, reason_in}
+use Rattle.svr_trail.specs.Trail.{Each, IsClosed, sign_at}
 use Rattle.svr_cdcl.specs.Search.{at_end, IsSearch}
-use Rattle.svr_cdcl.specs.Learned.{IsLowest, is_decided, is_explained}
-use Rattle.svr_query.specs.Logged.{IsLogged, IsAsked, AreSet, are_true}
+use Rattle.svr_cdcl.specs.Learned.{IsLowest, is_explained}
+use Rattle.svr_query.specs.Logged.{IsLogged, AreSet, are_true}
 use Rattle.svr_query.specs.Sweep.{IsSwept, IsNextBit, open_nodes}
-use Rattle.svr_query.proofs.Asked.{each-take, decided-has, never-true, denied-from, kept-flip, reason-there}
+use Rattle.svr_query.proofs.Asked.{each-take}
 use Rattle.svr_query.proofs.Complete.{all-set}
 use Rattle.svr_query.proofs.Logs.{logged-same, logged-push}
 use Rattle.svr_query.proofs.Nodes.{nodes-few, nodes-same}
