@@ -280,7 +280,7 @@ pub fn run(
         entries: 0,
     };
     keep_asked(search, assume, order);
-    order.begin(prefer);
+    order.begin();
     let _ = search.level();
     let mut made = 0;
     'search: while made < budget {
