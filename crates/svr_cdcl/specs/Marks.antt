@@ -39,6 +39,10 @@ is_last es base left p ms = list_all (λ m. same_lit m.lit p || (is_false (value
 abbrev pub are_passed : List Entry → ℕ → List Entry → Bool
 are_passed es place ms = list_all (λ m. not (is_false (value_in (take place es) m.lit))) ms
 
+-- each marked literal that is false by the first `high` entries is so by the first `low` ones
+abbrev pub none_between : List Entry → ℕ → ℕ → List Entry → Bool
+none_between es low high ms = list_all (λ m. is_false (value_in (take low es) m.lit) || not (is_false (value_in (take high es) m.lit))) ms
+
 -- the variables of the literals but the kept one are marked
 abbrev pub are_marked : List Entry → Option Lit → List Lit → Bool
 are_marked ms keep c = list_all (λ x. is_kept keep x || is_marked ms x.var) c

@@ -1,12 +1,12 @@
 // The literals seen in an analysis.
 
-ghost use Rattle.std.specs.Prelude.{◌≡◌, ◌≢◌, ℕ, ◌<◌, ◌||◌, true, false, IfOk, IfSome, IsSome, List, None, Some, map, nat_eq, take};
+ghost use Rattle.std.specs.Prelude.{◌≡◌, ◌≢◌, ℕ, ◌<◌, ◌≤◌, ◌||◌, true, false, not, IfOk, IfSome, IsSome, List, None, Some, length, map, nat_eq, take};
 ghost use Rattle.std.specs.List.{list_all};
 ghost use Rattle.svr_chain.specs.declared.clause.Lit.{Lit};
 ghost use Rattle.svr_chain.specs.Clauses.{AreWithin, has};
 ghost use Rattle.svr_chain.specs.Log.{named};
 ghost use Rattle.svr_cdcl.specs.Learned.{is_kept};
-ghost use Rattle.svr_cdcl.specs.Marks.{AreFalse, Marks, are_passed, is_false_besides, is_marked, is_touched};
+ghost use Rattle.svr_cdcl.specs.Marks.{AreFalse, Marks, are_passed, is_false_besides, is_marked, is_touched, none_between};
 ghost use Rattle.svr_trail.specs.Trail.{is_false, value_in};
 ghost use Rattle.svr_watch.specs.Codes.{lit_of};
 ghost use Rattle.svr_watch.specs.Store.{clauses_of};
@@ -160,6 +160,46 @@ pub fn has_more(trail: &Trail, marks: &Trail, place: usize, passed: usize) -> bo
         return true;
     }
     !are_passed(trail, place, marks.entries())
+}
+
+/// Behind the entry that made a literal false, where that is before a place and not before `behind`; else `behind`.
+fn raised(trail: &Trail, place: usize, behind: usize, lit: Lit) -> usize
+    requires place { place ≤ length trail.now.entries }
+    requires behind { behind ≤ place }
+    ensures up { behind ≤ result }
+    ensures within { result ≤ place }
+    ensures between { (is_false (value_in (take result trail.now.entries) lit) || not (is_false (value_in (take place trail.now.entries) lit))) ≡ true }
+{
+    let at = trail.falsified_at(lit);
+    if at < behind || at >= place {
+        return behind;
+    }
+    at + 1
+}
+
+/// Behind the last entry before a place that made one of these literals false, 0 where none did.
+fn behind_marked(trail: &Trail, place: usize, marks: &[Entry]) -> usize
+    requires { place ≤ length trail.now.entries }
+    ensures within { result ≤ place }
+    ensures between { none_between trail.now.entries result place marks.now ≡ true }
+{
+    let mut behind = 0;
+    for mark in marks {
+        behind = raised(trail, place, behind, mark.lit);
+    }
+    behind
+}
+
+/// Where a walk back goes on that has come to a place: there, or behind the next marked literal. That one is looked for behind as many entries without a mark as there are marks, so that neither the entries nor the marks that are looked at become many.
+pub fn next_place(trail: &Trail, marks: &Trail, place: usize, unmarked: usize) -> usize
+    requires { place ≤ length trail.now.entries }
+    ensures within { result ≤ place }
+    ensures between { none_between trail.now.entries result place marks.now.entries ≡ true }
+{
+    if unmarked < marks.len() {
+        return place;
+    }
+    behind_marked(trail, place, marks.entries())
 }
 
 /// Whether a literal is in the clause of a number.
