@@ -65,7 +65,7 @@ all_read_text limit text SomeGivenUp old new other taken few end = end
 all_read_text limit text Refused old new other taken few end = inl (few, end)
 all_read_text limit text Limited old new other taken few end = end
 all_read_text limit text ReadFault old new other taken few end = (text, taken, few)
-all_read_text limit text WriteFault old new other taken few end = inl end
+all_read_text limit text WriteFault old new other taken few end = inl (few, end)
 all_read_text limit text NoMemory old new other taken few end = takes_within old new limit (text, taken, few)
 
 pub all_extent : (limit : ℕ) (text : List ℕ) (result : Status) (old new : Option (List ℕ))
@@ -86,7 +86,7 @@ pub refusal_read_text : (limit : ℕ) (text : List ℕ) (result : Status) (old n
     → limit < length text → Takes old new (limit + 1)
     → ((result ≡ Refused) × A) ⊎ (((result ≡ WriteFault) × F × R) ⊎ ((result ≡ NoMemory) × N)) → HasReadText limit text result old new
 refusal_read_text limit text result old new A F R N long taken (inl (e, all)) = subst (λ s. HasReadText limit text s old new) (sym e) (inr (long, taken))
-refusal_read_text limit text result old new A F R N long taken (inr (inl (e, front, rose))) = subst (λ s. HasReadText limit text s old new) (sym e) (inr taken)
+refusal_read_text limit text result old new A F R N long taken (inr (inl (e, front, rose))) = subst (λ s. HasReadText limit text s old new) (sym e) (inr (long, taken))
 refusal_read_text limit text result old new A F R N long taken (inr (inr (e, kept))) = subst (λ s. HasReadText limit text s old new) (sym e) (takes_no_more old new (limit + 1) taken)
 
 -- of a command that reads a text of at most so many bytes

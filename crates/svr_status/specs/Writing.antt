@@ -53,9 +53,14 @@ HasRead limit WriteFault old new = IsAtEnd new ⊎ Takes old new (limit + 1)
 HasRead limit NoMemory old new = TakesUpTo old new (limit + 1)
 
 -- a text that is within the limit was read to its end, and of a longer one, one byte past the limit
-abbrev pub HasReadText : ℕ → List ℕ → Status → Option (List ℕ) → Option (List ℕ) → Type 0
-HasReadText limit text Refused old new =
+abbrev pub IsReadTo : ℕ → List ℕ → Option (List ℕ) → Option (List ℕ) → Type 0
+IsReadTo limit text old new =
     ((length text ≤ limit) × IsAtEnd new) ⊎ ((limit < length text) × Takes old new (limit + 1))
+
+-- how far a text was read that a source tells: where it was refused, or a sink failed, by its length
+abbrev pub HasReadText : ℕ → List ℕ → Status → Option (List ℕ) → Option (List ℕ) → Type 0
+HasReadText limit text Refused old new = IsReadTo limit text old new
+HasReadText limit text WriteFault old new = IsReadTo limit text old new
 HasReadText limit text status old new = HasRead limit status old new
 
 -- what words that are no command end with
