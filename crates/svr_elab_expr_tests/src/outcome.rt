@@ -11,7 +11,6 @@ ghost use Rattle.svr_elab_part.specs.Fits.{Each, GlobalFits};
 use crate::places::{members, properties, variables};
 use crate::reading::read;
 use indexmap::{IndexMap, IndexSet};
-use sqlite_items::Items;
 use std::alloc::{AllocError, Global};
 use svr_elab_expr::value;
 use svr_elab_names::{ClassNames, Global as Stands, NameSpace, PropEntry, Region, VarStand};
@@ -219,7 +218,7 @@ fn class<'a>(alloc: Global) -> Result<Vec<ClassNames<'a>>, AllocError> {
         base: None,
         props,
         inherited: 0,
-        blocks: Items::new(alloc),
+        blocks: IndexSet::new(alloc),
     })?;
     Ok(classes)
 }

@@ -8,7 +8,7 @@ use Rattle.svr_elab_names.specs.declared.space.Global.{Global}
 use Rattle.svr_elab_names.specs.declared.space.VarStand.{VarStand}
 use Rattle.svr_elab_names.specs.declared.space.PropEntry.{PropEntry}
 use Rattle.svr_elab_names.specs.declared.meaning.Meaning.{Meaning}
-use Rattle.svr_elab_names.specs.Names.{is_same, find_from, property_named, global_named, variable_named, stand_meaning}
+use Rattle.svr_elab_names.specs.Names.{is_same, find_from, find, property_named, global_named, variable_named, stand_meaning}
 use Rattle.svr_elab_names.specs.Tables.{Key, bytes_of, global_of, prop_of, var_of}
 
 module _ (q : List ℕ) where
@@ -81,6 +81,32 @@ module _ (q : List ℕ) where
 
   pub var_found : (es : List (Key × VarStand)) → variable_named (map var_of es) q ≡ with_place 0 (position is_key (map (λ e. e.0) es)) (lookup is_key es)
   var_found es = var_from 0 es
+
+  -- ---- names, by their places
+
+  abbrev NameFrom : ℕ → List Key → Type 0
+  NameFrom n ks = option_map (λ f. f.0) (find_from (λ b. b) q n (map bytes_of ks)) ≡ option_map (λ (i : ℕ). n + i) (position is_key ks)
+
+  placed_on : (n : ℕ) (o : Option ℕ) → option_map (λ (i : ℕ). n + 1 + i) o ≡ option_map (λ (i : ℕ). n + i) (option_map suc o)
+  placed_on n None = refl
+  placed_on n (Some i) = ap (λ (k : ℕ). Some k) (omega arith)
+
+  name_step : (n : ℕ) (k : Key) (ks : List Key) → NameFrom (n + 1) ks → (b : Bool)
+      → option_map (λ f. f.0) (if b then Some (n, k.now) else find_from (λ b. b) q (n + 1) (map bytes_of ks)) ≡ option_map (λ (i : ℕ). n + i) (cond b (Some 0) (option_map suc (position is_key ks)))
+  name_step n k ks h true = ap (λ (i : ℕ). Some i) (omega arith)
+  name_step n k ks h false = h ∙ placed_on n (position is_key ks)
+
+  name_from : (n : ℕ) (ks : List Key) → NameFrom n ks
+  name_from n [] = refl
+  name_from n (k ∷ ks) =
+      name_step n k ks (name_from (n + 1) ks) (is_key k) ∙ ap (λ (o : Option ℕ). option_map (λ (i : ℕ). n + i) o) (sym (position_more k ks (is_key k) refl))
+
+  from_first : (o : Option ℕ) → option_map (λ (i : ℕ). 0 + i) o ≡ o
+  from_first None = refl
+  from_first (Some i) = ap (λ (k : ℕ). Some k) (omega arith)
+
+  pub name_found : (ks : List Key) → option_map (λ f. f.0) (find (λ b. b) q (map bytes_of ks)) ≡ position is_key ks
+  name_found ks = name_from 0 ks ∙ from_first (position is_key ks)
 
   pub is_among : (ks : List Key) → list_any (is_same q) (map bytes_of ks) ≡ list_any is_key ks
   is_among [] = refl

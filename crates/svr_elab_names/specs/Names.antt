@@ -33,7 +33,7 @@ pub record PropName : Type 0 where
   pub property : Property
   pub first : ℕ
 
--- properties in flat order, the inherited ones first; blocks in flat order
+-- properties in flat order, the inherited ones first; the names of the blocks that it declares itself
 pub record ClassName : Type 0 where
   pub name : List ℕ
   pub base : Option ℕ

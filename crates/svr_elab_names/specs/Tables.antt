@@ -35,7 +35,7 @@ class_of c = record {
   base = c.base;
   props = map prop_of c.props.entries;
   inherited = c.inherited;
-  blocks = map bytes_of c.blocks;
+  blocks = map bytes_of c.blocks.keys;
 }
 
 abbrev pub space_of : NameSpace → Space

@@ -2,7 +2,6 @@
 
 use crate::meaning::{Property, Vector};
 use indexmap::{IndexMap, IndexSet};
-use sqlite_items::Items;
 use svr_token::Names;
 
 /// Where an expression stands: in a typedef or a property's declaration, a constraint block, an in-line set of constraints, or a statement.
@@ -36,14 +35,14 @@ pub struct PropEntry {
     pub first: u64,
 }
 
-/// A class: its properties in flat order by name, how many of them it inherits, and the names of its blocks in flat order.
+/// A class: its properties in flat order by name, how many of them it inherits, and the names of the blocks that it declares itself.
 #[derive(Drop)]
 pub struct ClassNames<'a> {
     pub name: &'a [u8],
     pub base: Option<u32>,
     pub props: IndexMap<&'a [u8], PropEntry>,
     pub inherited: usize,
-    pub blocks: Items<&'a [u8]>,
+    pub blocks: IndexSet<&'a [u8]>,
 }
 
 /// The name of a loop: a loop variable of `foreach`, or with `item` the element of that array in a reduction.
