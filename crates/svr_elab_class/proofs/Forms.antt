@@ -96,7 +96,6 @@ pub start_is : (cs : List ClassName) (base : Option ℕ) (ps : List PropName) (a
     → (let s : Known = record { props = ps; arrays = arrays; own = own; blocks = blocks; faults = None } in s) ≡ spec.class_start first_one cs base
 start_is cs base ps arrays own blocks is_ps is_arrays is_own is_blocks = rw (is_arrays, is_ps, is_own, is_blocks) refl
 
-pub class_is : (cs : List ClassName) (base : Option ℕ) (q : List ℕ) (c : Known) (inherited : ℕ) (blocks : List (List ℕ))
-    → inherited ≡ length (spec.props_at cs base) → blocks ≡ spec.without c.blocks (spec.blocks_at cs base) ++ c.blocks
-    → (let k : ClassName = record { name = q; base = base; props = c.props; inherited = inherited; blocks = blocks } in k) ≡ spec.class_name cs base q c
-class_is cs base q c inherited blocks is_inherited is_blocks = rw (is_inherited, is_blocks) refl
+pub class_is : (cs : List ClassName) (base : Option ℕ) (q : List ℕ) (c : Known) (inherited : ℕ) → inherited ≡ length (spec.props_at cs base)
+    → (let k : ClassName = record { name = q; base = base; props = c.props; inherited = inherited; blocks = c.blocks } in k) ≡ spec.class_name cs base q c
+class_is cs base q c inherited is_inherited = rw is_inherited refl

@@ -1,6 +1,5 @@
 mod Tables
 mod Copied
 mod Members
-mod Flat
 mod Declared
 mod Forms

@@ -1,5 +1,5 @@
--- Classes: their properties in flat order, the names of their blocks, and what their declarations are refused for (IEEE 1800-2017, clauses 8 and 18.5.2).
-use Rattle.std.specs.Prelude.{ℕ, ◌+◌, min, Bool, true, false, not, if◌then◌else◌, List, [], ◌∷◌, ◌++◌, length, map, count_by, Option, Some, None, is_none, slice_get}
+-- Classes: their properties in flat order, the names of the blocks that they declare, and what their declarations are refused for (IEEE 1800-2017, clause 8).
+use Rattle.std.specs.Prelude.{ℕ, ◌+◌, min, Bool, true, false, not, if◌then◌else◌, List, [], ◌∷◌, ◌++◌, length, map, count_by, Option, Some, None, is_none}
 use Rattle.std.specs.List.{list_any}
 use Rattle.svr_operator.specs.declared.Rand.{Rand}
 use Rattle.svr_limits.specs.declared.limit.TheConstants.{PROPERTY_LIMIT}
@@ -42,19 +42,6 @@ base_at text gs (Some name) = class_at text gs name
 abbrev pub props_at : List ClassName → Option ℕ → List PropName
 props_at cs None = []
 props_at cs (Some c) = class_props cs c
-
-abbrev pub blocks_of : Option ClassName → List (List ℕ)
-blocks_of None = []
-blocks_of (Some c) = c.blocks
-
-abbrev pub blocks_at : List ClassName → Option ℕ → List (List ℕ)
-blocks_at cs None = []
-blocks_at cs (Some c) = blocks_of (slice_get cs c)
-
--- the blocks that none of these names replaces
-abbrev pub without : List (List ℕ) → List (List ℕ) → List (List ℕ)
-without own [] = []
-without own (b ∷ bs) = if list_any (is_same b) own then without own bs else b ∷ without own bs
 
 abbrev pub arrays_in : List PropName → ℕ
 arrays_in ps = count_by (λ p. is_array p.property.dims) ps
@@ -136,14 +123,13 @@ head_inside s base c = record {
   names = record s.names { later = own_properties s.names.text [] c.items };
 }
 
--- its blocks take the place of inherited ones of their names (18.5.2)
 abbrev pub class_name : {F : Type 0} → List ClassName → Option ℕ → List ℕ → ClassElab F → ClassName
 class_name cs base q e = record {
   name = q;
   base = base;
   props = e.props;
   inherited = length (props_at cs base);
-  blocks = without e.blocks (blocks_at cs base) ++ e.blocks;
+  blocks = e.blocks;
 }
 
 module _ {F : Type 0} (g : Gather F) where

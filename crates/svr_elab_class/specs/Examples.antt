@@ -1,4 +1,4 @@
--- Classes with their first refusal, or the properties and blocks of the last of them in flat order, worked out by hand from the rules of the standard (IEEE 1800-2017, clauses 7, 8 and 18).
+-- Classes with their first refusal, or the last of them with its properties in flat order and the blocks that it declares itself, worked out by hand from the rules of the standard (IEEE 1800-2017, clauses 7, 8 and 18).
 use Rattle.std.specs.Prelude.{ℕ, ◌==◌, Bool, true, false, not, ◌&&◌, List, [], ◌∷◌, Option, Some, None}
 use Rattle.svr_operator.specs.declared.Rand.{Rand}
 use Rattle.svr_operator.specs.declared.Rand.TheVariants as rand
@@ -111,11 +111,11 @@ is_so (flat cs fs bs) = is_clear (declared [] cs).faults && is_class (last_class
 abbrev pub first_class : ClassTree
 first_class = class 200 (property rand.Rand byte_type (scalar 223) ∷ property rand.State byte_type (scalar 324) ∷ block 415 ∷ [])
 
--- inherited properties come first and stay what they are; a block takes the place of the inherited one of its name
+-- inherited properties come first and stay what they are; a block may have the name of an inherited one
 abbrev pub flat_classes : List Case
 flat_classes =
     flat (first_class ∷ []) ((120, 0, true) ∷ (121, 0, false) ∷ []) (112 ∷ [])
-    ∷ flat (first_class ∷ derived 501 600 (property rand.Randc (bit_type 7) (scalar 725) ∷ block 816 ∷ []) ∷ []) ((120, 0, true) ∷ (121, 0, false) ∷ (122, 1, true) ∷ []) (112 ∷ 113 ∷ [])
+    ∷ flat (first_class ∷ derived 501 600 (property rand.Randc (bit_type 7) (scalar 725) ∷ block 816 ∷ []) ∷ []) ((120, 0, true) ∷ (121, 0, false) ∷ (122, 1, true) ∷ []) (113 ∷ [])
     ∷ flat (first_class ∷ derived 501 600 (block 716 ∷ block 815 ∷ []) ∷ []) ((120, 0, true) ∷ (121, 0, false) ∷ []) (113 ∷ 112 ∷ [])
     ∷ []
 
@@ -128,7 +128,7 @@ base_classes =
     -- a name of the base
     ∷ refused [] (first_class ∷ derived 501 600 (property rand.Rand byte_type (scalar 723) ∷ []) ∷ []) 24 723
     -- a block may have the name of an inherited property
-    ∷ flat (first_class ∷ derived 501 600 (block 723 ∷ []) ∷ []) ((120, 0, true) ∷ (121, 0, false) ∷ []) (112 ∷ 120 ∷ [])
+    ∷ flat (first_class ∷ derived 501 600 (block 723 ∷ []) ∷ []) ((120, 0, true) ∷ (121, 0, false) ∷ []) (120 ∷ [])
     -- a class twice, and a label of another name
     ∷ refused [] (class 200 [] ∷ class 300 [] ∷ []) 8 300
     ∷ refused [] (labelled 200 301 ∷ []) 7 301

@@ -1,14 +1,12 @@
 // Declarations of classes (IEEE 1800-2017, clause 8).
 
-ghost use Rattle.std.specs.Prelude.{◌≡◌, ◌<◌, ◌^◌, ◌+◌, ◌∷◌, ◌++◌, [], ℕ, List, IfOk, if◌then◌else◌, map, length};
-ghost use Rattle.std.specs.List.{list_any};
+ghost use Rattle.std.specs.Prelude.{◌≡◌, ◌<◌, ◌^◌, ◌+◌, ◌∷◌, ◌++◌, [], IfOk, map, length};
 ghost use Rattle.svr_token.specs.Names.{names_of};
 ghost use Rattle.svr_tree.specs.DeclTree.{class_item_tree, class_tree};
 ghost use Rattle.svr_elab_fault.specs.Refusals.{first_one};
 ghost use Rattle.svr_elab_names.specs.declared.Global.TheVariants as global;
 ghost use Rattle.svr_elab_names.specs.Names as names_spec;
-ghost use Rattle.svr_elab_names.specs.Names.{is_same};
-ghost use Rattle.svr_elab_names.specs.Tables.{global_of, prop_of, class_of, bytes_of};
+ghost use Rattle.svr_elab_names.specs.Tables.{global_of, prop_of, class_of};
 ghost use Rattle.svr_elab_part.specs.Fits.{MembersFit};
 ghost use Rattle.svr_elab_type.specs.Types as types;
 ghost use Rattle.svr_elab_decl.specs.Fits.{ClassItemsFit};
@@ -16,15 +14,13 @@ ghost use Rattle.svr_elab_type.specs.Seen.{AreEmpty, globals_part};
 ghost use Rattle.svr_elab_class.specs.Classes as spec;
 ghost use Rattle.svr_elab_class.specs.Seen.{head_of, class_part};
 
-use crate::head::{ClassHead, ClassPart, is_among};
+use crate::head::{ClassHead, ClassPart};
 use crate::later::own_properties;
 use crate::property::class_items;
 use indexmap::{IndexMap, IndexSet};
-use sqlite_items::Items;
 use std::alloc::Global as Heap;
 use svr_elab_expr::beside;
 use svr_elab_fault::{Fault, earlier, when};
-use svr_elab_form::pushed;
 use svr_elab_names::{ClassNames, Global, PropEntry};
 use svr_elab_type::{Globals, NoNames, and_name, double};
 use svr_refusal::Refusal;
@@ -155,76 +151,6 @@ fn class_start<'a>(
     })
 }
 
-/// One more block, unless one of these names replaces it.
-fn and_block<'a>(
-    blocks: Items<&'a [u8]>,
-    own: &IndexSet<&'a [u8]>,
-    block: &'a [u8],
-) -> Result<Items<&'a [u8]>, NoMemory>
-    ensures { IfOk result (λ bs. (more : List (List ℕ)) → map bytes_of bs ++ more ≡ map bytes_of blocks.entry ++ (if list_any (is_same block.now) (map bytes_of own.now.keys) then more else block.now ∷ more)) }
-{
-    if is_among(own, block) {
-        return Ok(blocks);
-    }
-    pushed(blocks, block)
-}
-
-/// The blocks that none of these names replaces.
-fn without<'a>(
-    alloc: Heap,
-    own: &IndexSet<&'a [u8]>,
-    inherited: &[&'a [u8]],
-) -> Result<Items<&'a [u8]>, NoMemory>
-    ensures { IfOk result (λ bs. map bytes_of bs ≡ spec.without (map bytes_of own.now.keys) (map bytes_of inherited.now)) }
-{
-    let mut blocks = Items::new(alloc);
-    for block in inherited {
-        blocks = and_block(blocks, own, *block)?;
-    }
-    Ok(blocks)
-}
-
-fn inherited_blocks<'a>(
-    alloc: Heap,
-    own: &IndexSet<&'a [u8]>,
-    classes: &[ClassNames<'a>],
-    base: Option<u32>,
-) -> Result<Items<&'a [u8]>, NoMemory>
-    ensures { IfOk result (λ bs. map bytes_of bs ≡ spec.without (map bytes_of own.now.keys) (spec.blocks_at (map class_of classes.now) base)) }
-{
-    let Some(base) = base else {
-        return Ok(Items::new(alloc));
-    };
-    match classes.get(base as usize) {
-        None => Ok(Items::new(alloc)),
-        Some(class) => without(alloc, own, class.blocks.as_slice()),
-    }
-}
-
-/// These blocks, and then the others.
-fn with_blocks<'a>(first: Items<&'a [u8]>, others: &[&'a [u8]]) -> Result<Items<&'a [u8]>, NoMemory>
-    ensures { IfOk result (λ bs. map bytes_of bs ≡ map bytes_of first.entry ++ map bytes_of others.now) }
-{
-    let mut blocks = first;
-    for block in others {
-        blocks = pushed(blocks, *block)?;
-    }
-    Ok(blocks)
-}
-
-/// The names of all blocks in flat order (IEEE 1800-2017, 18.5.2).
-fn all_blocks<'a>(
-    alloc: Heap,
-    own: &IndexSet<&'a [u8]>,
-    classes: &[ClassNames<'a>],
-    base: Option<u32>,
-) -> Result<Items<&'a [u8]>, NoMemory>
-    ensures { IfOk result (λ bs. map bytes_of bs ≡ spec.without (map bytes_of own.now.keys) (spec.blocks_at (map class_of classes.now) base) ++ map bytes_of own.now.keys) }
-{
-    let inherited = inherited_blocks(alloc, own, classes, base)?;
-    with_blocks(inherited, own.as_slice())
-}
-
 fn count_inherited(classes: &[ClassNames<'_>], base: Option<u32>) -> usize
     ensures { result ≡ length (spec.props_at (map class_of classes.now) base) }
 {
@@ -237,25 +163,23 @@ fn count_inherited(classes: &[ClassNames<'_>], base: Option<u32>) -> usize
     }
 }
 
+/// What is kept of a class.
 fn class_names<'a>(
-    alloc: Heap,
     classes: &[ClassNames<'a>],
     base: Option<u32>,
     name: &'a [u8],
     part: ClassPart<'a>,
-) -> Result<ClassNames<'a>, NoMemory>
-    ensures { IfOk result (λ c. class_of c ≡ spec.class_name (map class_of classes.now) base name.now (class_part part.entry)) }
+) -> ClassNames<'a>
+    ensures { class_of result ≡ spec.class_name (map class_of classes.now) base name.now (class_part part.entry) }
 {
-    let blocks = all_blocks(alloc, &part.blocks, classes, base);
-    let (part, blocks) = beside(part, blocks)?;
-    drop((part.own, part.blocks));
-    Ok(ClassNames {
+    drop(part.own);
+    ClassNames {
         name,
         base,
         props: part.props,
         inherited: count_inherited(classes, base),
-        blocks,
-    })
+        blocks: part.blocks,
+    }
 }
 
 /// The number of the class behind these.
@@ -330,7 +254,6 @@ fn class_inside<'a>(
 
 /// With one more class behind the others, by what is known of its items.
 fn with_class<'a>(
-    alloc: Heap,
     globals: Globals<'a>,
     base: Option<u32>,
     name: &'a [u8],
@@ -343,8 +266,8 @@ fn with_class<'a>(
     ensures fault { IfOk result (λ s. s.fault ≡ fault) }
     ensures count { IfOk result (λ s. length s.classes ≡ length globals.entry.classes + 1) }
 {
-    let class = class_names(alloc, globals.classes.as_slice(), base, name, part);
-    let (mut globals, class) = beside(globals, class)?;
+    let class = class_names(globals.classes.as_slice(), base, name, part);
+    let mut globals = globals;
     match globals.classes.push(class) {
         Ok(()) => Ok(Globals { fault, ..globals }),
         Err(_) => {
@@ -380,5 +303,5 @@ pub fn class_decl<'a>(
     let (globals, part) = beside(globals, part)?;
     let own = earlier(part.fault, label_fault(names, decl.name, decl.label));
     let fault = earlier(globals.fault, earlier(base_fault, earlier(twice, own)));
-    with_class(alloc, globals, base, spelled, part, fault)
+    with_class(globals, base, spelled, part, fault)
 }

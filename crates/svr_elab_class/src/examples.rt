@@ -4,7 +4,7 @@ ghost use Rattle.std.specs.Prelude.{◌≡◌, true};
 ghost use Rattle.std.specs.List.{list_all};
 ghost use Rattle.svr_elab_class.specs.Examples as example;
 
-/// Inherited properties and blocks, in flat order.
+/// Inherited properties in flat order, and the blocks of the class itself.
 pub fn flat_classes_are_as_worked_out()
     ensures { list_all example.is_so example.flat_classes ≡ true }
 {}

@@ -1,4 +1,4 @@
-//! Classes with their properties in flat order and the names of their blocks, with their first refusal (IEEE 1800-2017, clauses 8 and 18.5.2).
+//! Classes with their properties in flat order and the names of the blocks that they declare, with their first refusal (IEEE 1800-2017, clause 8).
 //!
 //! `specs/Classes.antt` defines what is known of a class, with all refusals or the first one; contracts here have the first one.
 #![tactic(auto)]

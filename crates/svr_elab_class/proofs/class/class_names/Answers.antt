@@ -5,6 +5,4 @@ use Rattle.svr_elab_class.proofs.Forms.{class_is}
 use Rattle.svr_elab_class.proofs.class.class_names.Goals as goal
 
 pub returns : goal.returns
-returns c =
-    rw c.in_ok-part.ensures.held
-    (class_is (map class_of c.args.classes.now) c.args.base c.args.name.now (class_part c.args.part) _ _ c.count_inherited.ensures (rw c.in_ok-part.ensures.made at c.all_blocks-blocks.ensures))
+returns c = class_is (map class_of c.args.classes.now) c.args.base c.args.name.now (class_part c.args.part) _ c.count_inherited.ensures
