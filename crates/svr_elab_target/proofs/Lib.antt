@@ -1,2 +1,4 @@
 pub mod Fitting
 pub mod Listed
+mod Fronts
+mod Chains

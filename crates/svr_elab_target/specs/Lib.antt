@@ -1,4 +1,6 @@
 pub mod Targets
+pub mod Blocks
 pub mod Named
 pub mod Seen
 pub mod Fits
+pub mod Examples

@@ -1,5 +1,5 @@
 -- What statements name: objects, and the properties and blocks of their classes (IEEE 1800-2017, 8.7, 18.6.1, 18.7, 18.8, 18.9 and 18.11).
-use Rattle.std.specs.Prelude.{ℕ, nat_eq, Bool, true, not, ◌&&◌, if◌then◌else◌, List, [], ◌∷◌, ◌++◌, Option, Some, None, is_none, option_map, slice_get}
+use Rattle.std.specs.Prelude.{ℕ, nat_eq, Bool, true, not, ◌&&◌, if◌then◌else◌, List, [], ◌∷◌, ◌++◌, Option, Some, None, is_none, option_map}
 use Rattle.std.specs.List.{list_any}
 use Rattle.svr_typed.specs.declared.CallList.{CallList}
 use Rattle.svr_typed.specs.declared.CallList.TheVariants as call_list
@@ -17,11 +17,12 @@ use Rattle.svr_elab_names.specs.declared.Property.{Property}
 use Rattle.svr_elab_names.specs.declared.Meaning.{Meaning}
 use Rattle.svr_elab_names.specs.declared.Meaning.TheVariants.{Wrong, LoopOf, ItemOf, MemberOf, PropertyOf, SizeOf, FoldOf, VariableOf, ObjectOf}
 use Rattle.svr_elab_names.specs.declared.Region.TheVariants as region
-use Rattle.svr_elab_names.specs.Names.{Space, ClassName, PropName, is_same, find, look, class_props, property_named}
+use Rattle.svr_elab_names.specs.Names.{Space, PropName, is_same, look, class_props, property_named}
 use Rattle.svr_elab_part.specs.declared.Form.{Form}
 use Rattle.svr_elab_part.specs.Elab.{Elab}
 use Rattle.svr_elab_part.specs.Forms.{is_refused}
 use Rattle.svr_elab_target.specs.Targets.{target_of, is_answer}
+use Rattle.svr_elab_target.specs.Blocks.{block_number}
 
 -- ---- which object variables have an object
 
@@ -94,19 +95,12 @@ and_listed before q = if list_any (is_same q) before then before else before ++ 
 
 -- ---- what a mode names: a property, or a block
 
-abbrev pub class_blocks : Option ClassName → List (List ℕ)
-class_blocks None = []
-class_blocks (Some c) = c.blocks
-
-abbrev pub block_number : Option ClassName → List ℕ → Option ℕ
-block_number c q = option_map (λ f. f.0) (find (λ b. b) q (class_blocks c))
-
 abbrev pub property_number : List PropName → List ℕ → Option ℕ
 property_number ps q = option_map (λ p. p.number) (property_named ps q)
 
 abbrev pub member_number : ModeKind → Space → ℕ → List ℕ → Option ℕ
 member_number mode_kind.Rand n c q = property_number (class_props n.classes c) q
-member_number mode_kind.Constraint n c q = block_number (slice_get n.classes c) q
+member_number mode_kind.Constraint n c q = block_number n.classes c q
 
 -- the property or block that stands behind the object variable
 abbrev pub mode_member : ModeKind → Space → ℕ → List ℕ → Option ℕ

@@ -1,8 +1,10 @@
 //! What statements name: the left sides of assignments, and objects with the properties and blocks of their classes (IEEE 1800-2017, 8.7, 10.4, 18.6.1, 18.8, 18.9 and 18.11).
 //!
-//! Contracts say what stands in `specs/Targets.antt` and `specs/Named.antt`, with the first refusal in the place of all of them.
+//! Contracts say what stands in `specs/Targets.antt`, `specs/Named.antt` and `specs/Blocks.antt`, with the first refusal in the place of all of them.
 #![tactic(auto)]
 
+mod chain;
+pub mod examples;
 mod list;
 mod member;
 mod path;

@@ -101,7 +101,7 @@ fn name_fault(
 }
 
 /// Different names with one more.
-fn and_listed<'a>(
+pub(crate) fn and_listed<'a>(
     before: IndexSet<&'a [u8]>,
     name: &'a [u8],
 ) -> Result<IndexSet<&'a [u8]>, NoMemory>

@@ -1,15 +1,18 @@
 // What a mode names behind an object (IEEE 1800-2017, 18.8 and 18.9).
 
-ghost use Rattle.std.specs.Prelude.{◌≡◌, map};
+ghost use Rattle.std.specs.Prelude.{◌≡◌, IfOk, map};
 ghost use Rattle.svr_token.specs.Names.{names_of};
 ghost use Rattle.svr_elab_names.specs.Names as names_spec;
 ghost use Rattle.svr_elab_names.specs.Tables.{space_of, class_of};
 ghost use Rattle.svr_elab_target.specs.Named as spec;
 ghost use Rattle.svr_elab_target.specs.Fits.{BlocksFit};
 
-use crate::property::{class_block, class_property};
+use crate::chain::class_block;
+use crate::property::class_property;
+use std::alloc::Global;
 use svr_elab_names::NameSpace;
 use svr_tree::ModeKind;
+use svr_typed::NoMemory;
 
 fn property_number(class: u32, name: u32, names: &NameSpace<'_, '_>) -> Option<u32>
     ensures { result ≡ spec.property_number (names_spec.class_props (map class_of names.now.classes.now) class) (names_of names.now.names name) }
@@ -21,29 +24,36 @@ fn property_number(class: u32, name: u32, names: &NameSpace<'_, '_>) -> Option<u
 }
 
 /// The property, or the block, of this class whose name stands at this token.
-fn member_number(kind: ModeKind, class: u32, name: u32, names: &NameSpace<'_, '_>) -> Option<u32>
+fn member_number(
+    alloc: Global,
+    kind: ModeKind,
+    class: u32,
+    name: u32,
+    names: &NameSpace<'_, '_>,
+) -> Result<Option<u32>, NoMemory>
     requires { BlocksFit (space_of names.now) }
-    ensures { result ≡ spec.member_number kind (space_of names.now) class (names_of names.now.names name) }
+    ensures { IfOk result (λ n. n ≡ spec.member_number kind (space_of names.now) class (names_of names.now.names name)) }
 {
     match kind {
-        ModeKind::Rand => property_number(class, name, names),
-        ModeKind::Constraint => class_block(class, name, names),
+        ModeKind::Rand => Ok(property_number(class, name, names)),
+        ModeKind::Constraint => class_block(alloc, class, name, names),
     }
 }
 
 /// The property, or the block, that stands behind the object variable.
 pub fn mode_member(
+    alloc: Global,
     kind: ModeKind,
     class: u32,
     rest: &[u32],
     names: &NameSpace<'_, '_>,
-) -> Option<u32>
+) -> Result<Option<u32>, NoMemory>
     requires { BlocksFit (space_of names.now) }
-    ensures { result ≡ spec.mode_member kind (space_of names.now) class rest.now }
+    ensures { IfOk result (λ n. n ≡ spec.mode_member kind (space_of names.now) class rest.now) }
 {
     match rest.first() {
-        None => None,
-        Some(name) => member_number(kind, class, *name, names),
+        None => Ok(None),
+        Some(name) => member_number(alloc, kind, class, *name, names),
     }
 }
 

@@ -1,0 +1,17 @@
+use Rattle.std.proofs.Common.{map}
+use Rattle.svr_token.specs.Names.{names_of}
+use Rattle.svr_elab_names.specs.Tables.{class_of}
+use Rattle.svr_elab_target.proofs.Fitting.{blocks_below}
+use Rattle.svr_elab_target.proofs.Chains.{place_is}
+use Rattle.svr_elab_target.proofs.chain.class_block.Goals as goal
+
+pub returns-in-None : goal.returns-in-None
+returns-in-None c = rw c.name-spelled.ensures at c.block_along.ensures
+
+pub place_among-requires : goal.place_among-requires
+place_among-requires c = blocks_below c.args.names.now c.args.class c.in-Some.own.now.keys c.requires c.in-Some.ensures
+
+pub returns-in-Some : goal.returns-in-Some
+returns-in-Some c =
+    place_is (map class_of c.args.names.now.classes.now) c.args.class (names_of c.args.names.now.names c.args.name) c.in-Some.own.now.keys _ c.in-Some.ensures
+    (rw c.name-spelled.ensures at c.place_among.ensures)

@@ -1,0 +1,147 @@
+// The blocks of a class by name, with those that it inherits (IEEE 1800-2017, 18.5.2): in one step where it extends no class, and else in the time that its own blocks and those of the classes above it take together.
+
+ghost use Rattle.std.specs.Prelude.{◌≡◌, ◌<◌, ◌^◌, ◌++◌, IfOk, IfSome, length, map, option_map, reverse};
+ghost use Rattle.svr_token.specs.Names.{names_of};
+ghost use Rattle.svr_elab_names.specs.Names as names_spec;
+ghost use Rattle.svr_elab_names.specs.Tables.{space_of, class_of, bytes_of};
+ghost use Rattle.svr_elab_target.specs.Blocks as spec;
+ghost use Rattle.svr_elab_target.specs.Fits.{BlocksFit};
+
+use crate::list::and_listed;
+use indexmap::IndexSet;
+use std::alloc::Global;
+use svr_elab_names::{ClassNames, NameSpace};
+use svr_typed::NoMemory;
+
+/// The base of a class, where it stands before the class.
+fn base_before(classes: &[ClassNames<'_>], class: u32) -> Option<u32>
+    ensures { result ≡ spec.base_before (map class_of classes.now) class }
+{
+    match classes.get(class as usize) {
+        Some(own) => match own.base {
+            Some(base) if base < class => Some(base),
+            Some(_) => None,
+            None => None,
+        },
+        None => None,
+    }
+}
+
+/// Names with others, from the last of these back.
+fn with_names<'a>(
+    names: IndexSet<&'a [u8]>,
+    own: &[&'a [u8]],
+) -> Result<IndexSet<&'a [u8]>, NoMemory>
+    ensures { IfOk result (λ s. reverse (map bytes_of s.keys) ≡ spec.all_front (reverse (map bytes_of names.entry.keys)) (map bytes_of own.now)) }
+{
+    let mut names = names;
+    let mut left = own.len();
+    while left > 0 {
+        left -= 1;
+        names = and_listed(names, own[left])?;
+    }
+    Ok(names)
+}
+
+/// Names with those of the blocks that a class declares itself, from the last one back; none where there is no such class.
+fn with_class<'a>(
+    names: IndexSet<&'a [u8]>,
+    classes: &[ClassNames<'a>],
+    class: u32,
+) -> Result<IndexSet<&'a [u8]>, NoMemory>
+    ensures { IfOk result (λ s. reverse (map bytes_of s.keys) ≡ spec.without (reverse (map bytes_of names.entry.keys)) (spec.own_names (map class_of classes.now) class) ++ reverse (map bytes_of names.entry.keys)) }
+{
+    match classes.get(class as usize) {
+        None => Ok(names),
+        Some(own) => with_names(names, own.blocks.as_slice()),
+    }
+}
+
+/// The names of the blocks of a class in flat order, from the last one back.
+fn names_back<'a>(
+    alloc: Global,
+    classes: &[ClassNames<'a>],
+    class: u32,
+) -> Result<IndexSet<&'a [u8]>, NoMemory>
+    ensures { IfOk result (λ s. reverse (map bytes_of s.keys) ≡ spec.class_blocks (map class_of classes.now) class) }
+{
+    let mut names = IndexSet::new(alloc);
+    let mut next = Some(class);
+    'up: while let Some(at) = next {
+        names = with_class(names, classes, at)?;
+        next = base_before(classes, at);
+    }
+    Ok(names)
+}
+
+/// The names of the blocks of a class in flat order.
+fn flat_names<'a>(
+    alloc: Global,
+    classes: &[ClassNames<'a>],
+    class: u32,
+) -> Result<IndexSet<&'a [u8]>, NoMemory>
+    ensures { IfOk result (λ s. map bytes_of s.keys ≡ spec.class_blocks (map class_of classes.now) class) }
+{
+    let mut names = names_back(alloc, classes, class)?;
+    names.reverse();
+    Ok(names)
+}
+
+/// All blocks of a class that extends none.
+fn own_alone<'s, 'a>(classes: &'s [ClassNames<'a>], class: u32) -> Option<&'s IndexSet<&'a [u8]>>
+    ensures { IfSome result (λ s. map bytes_of s.now.keys ≡ spec.class_blocks (map class_of classes.now) class) }
+{
+    match classes.get(class as usize) {
+        None => None,
+        Some(own) => {
+            if own.base.is_none() {
+                Some(&own.blocks)
+            } else {
+                None
+            }
+        }
+    }
+}
+
+/// The place of a name among these.
+#[tactic(auto, using(svr_elab_names::proofs::Entries::name_found))]
+fn place_among(names: &IndexSet<&[u8]>, name: &[u8]) -> Option<u32>
+    requires { length names.now.keys < 2 ^ 32 }
+    ensures { result ≡ option_map (λ f. f.0) (names_spec.find (λ b. b) name.now (map bytes_of names.now.keys)) }
+{
+    match names.get_index_of(name) {
+        None => None,
+        Some(place) => Some(place as u32),
+    }
+}
+
+/// The place of the block of this name among those of the class with what it inherits.
+fn block_along(
+    alloc: Global,
+    class: u32,
+    name: &[u8],
+    names: &NameSpace<'_, '_>,
+) -> Result<Option<u32>, NoMemory>
+    requires { BlocksFit (space_of names.now) }
+    ensures { IfOk result (λ n. n ≡ spec.block_number (map class_of names.now.classes.now) class name.now) }
+{
+    let blocks = flat_names(alloc, names.classes, class)?;
+    Ok(place_among(&blocks, name))
+}
+
+/// The place of the block of this class whose name stands at this token, among its blocks in flat order.
+pub(crate) fn class_block(
+    alloc: Global,
+    class: u32,
+    name: u32,
+    names: &NameSpace<'_, '_>,
+) -> Result<Option<u32>, NoMemory>
+    requires { BlocksFit (space_of names.now) }
+    ensures { IfOk result (λ n. n ≡ spec.block_number (map class_of names.now.classes.now) class (names_of names.now.names name)) }
+{
+    let spelled = names.names.name(name);
+    match own_alone(names.classes, class) {
+        None => block_along(alloc, class, spelled, names),
+        Some(own) => Ok(place_among(own, spelled)),
+    }
+}
