@@ -1,5 +1,5 @@
 -- What a form needs of each of its parts.
-use Rattle.std.proofs.Common.{◌≡◌, ◌<◌, ◌≤◌, ◌+◌, ◌*◌, ◌^◌, arith, ℕ, List, [], ◌∷◌, map, drop, get_or, length, Option, None, Some, option_map, refl, sym, ap, ◌∙◌}
+use Rattle.std.proofs.Common.{◌≡◌, ◌<◌, ◌≤◌, ◌+◌, ◌*◌, ◌^◌, arith, ℕ, List, [], ◌∷◌, map, drop, get_or, length, Option, None, Some, option_map, Result, Ok, Err, IfOk, refl, sym, ap, ◌∙◌}
 use Rattle.std.proofs.lemmas.List.{at_drop_more, map-append}
 use Rattle.std.proofs.Math.Nat.{mul-le-mul}
 use Rattle.svr_limits.specs.declared.limit.TheConstants.{STATEMENT_LIMIT}
@@ -15,6 +15,11 @@ use Rattle.svr_elab_part.specs.Elab.{Elab, value}
 use Rattle.svr_elab_part.specs.Shapes.{and_more}
 use Rattle.svr_elab_stmt.specs.Stmts as spec
 use Rattle.svr_elab_stmt.specs.Stmts.{StmtElab, ValuesElab, ObjectPath, object_path}
+
+-- what is made is so by what is told of it
+pub told : {A E : Type 0} {P Q : A → Type 0} (r : Result A E) → IfOk r P → ((x : A) → P x → Q x) → IfOk r Q
+told (Ok x) p f = f x p
+told (Err e) p f = tt
 
 pub assigned_is : (r : StmtElab (Option Fault)) (x v w : Elab (Option Fault)) → r ≡ spec.assigned first_one x v → v ≡ w → r ≡ spec.assigned first_one x w
 assigned_is r x v w h p = h ∙ ap (λ (v : Elab (Option Fault)). spec.assigned first_one x v) p

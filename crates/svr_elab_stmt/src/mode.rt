@@ -17,7 +17,7 @@ ghost use Rattle.svr_elab_target.specs.Fits.{BlocksFit};
 use crate::part::StmtPart;
 use indexmap::IndexSet;
 use std::alloc::Global;
-use svr_elab_expr::value;
+use svr_elab_expr::{beside, value};
 use svr_elab_fault::earlier;
 use svr_elab_names::NameSpace;
 use svr_elab_part::Part;
@@ -89,29 +89,37 @@ fn mode_on_none(made: &IndexSet<u32>, first: u32, on: Part) -> StmtPart
 
 /// A mode of an object on a path.
 fn mode_on_object(
+    alloc: Global,
     path: ObjectPath<'_>,
     kind: ModeKind,
     object: Object,
     on: Part,
     names: &NameSpace<'_, '_>,
-) -> StmtPart
+) -> Result<StmtPart, NoMemory>
     requires { BlocksFit (space_of names.now) }
-    ensures value { stmt_part result ≡ spec.mode_of first_one (space_of names.now) (path_seen path.entry) kind (part_of on) (Some (object_seen object)) }
-    ensures once { result.count ≡ 1 }
+    ensures value { IfOk result (λ s. stmt_part s ≡ spec.mode_of first_one (space_of names.now) (path_seen path.entry) kind (part_of on) (Some (object_seen object))) }
+    ensures once { IfOk result (λ s. s.count ≡ 1) }
 {
-    let member = mode_member(kind, object.class, path.rest, names);
-    mode_on(names.made, path, kind, object, member, on)
+    let member = mode_member(alloc, kind, object.class, path.rest, names);
+    let (on, member) = beside(on, member)?;
+    Ok(mode_on(names.made, path, kind, object, member, on))
 }
 
 /// A mode of what stands on this path.
-fn mode_of(path: ObjectPath<'_>, kind: ModeKind, on: Part, names: &NameSpace<'_, '_>) -> StmtPart
+fn mode_of(
+    alloc: Global,
+    path: ObjectPath<'_>,
+    kind: ModeKind,
+    on: Part,
+    names: &NameSpace<'_, '_>,
+) -> Result<StmtPart, NoMemory>
     requires { BlocksFit (space_of names.now) }
-    ensures value { stmt_part result ≡ spec.mode_of first_one (space_of names.now) (path_seen path.entry) kind (part_of on) (option_map object_seen path.entry.object) }
-    ensures once { result.count ≡ 1 }
+    ensures value { IfOk result (λ s. stmt_part s ≡ spec.mode_of first_one (space_of names.now) (path_seen path.entry) kind (part_of on) (option_map object_seen path.entry.object)) }
+    ensures once { IfOk result (λ s. s.count ≡ 1) }
 {
     match path.object {
-        None => mode_on_none(names.made, path.first, on),
-        Some(object) => mode_on_object(path, kind, object, on, names),
+        None => Ok(mode_on_none(names.made, path.first, on)),
+        Some(object) => mode_on_object(alloc, path, kind, object, on, names),
     }
 }
 
@@ -130,5 +138,5 @@ pub fn mode_stmt(
 {
     let on = value(alloc, &mode.on, names)?;
     let path = object_path(&mode.path, names);
-    Ok(mode_of(path, mode.kind, on, names))
+    mode_of(alloc, path, mode.kind, on, names)
 }
