@@ -1,6 +1,5 @@
--- How many classes there are behind the types and classes of a script, and how many blocks each has.
-use Rattle.std.proofs.Common.{◌≡◌, ℕ, zero, suc, ◌+◌, ◌<◌, ◌≤◌, ◌^◌, Bool, true, false, if◌then◌else◌, List, [], ◌∷◌, ◌++◌, length, map, Option, Some, None, refl, sym, ap, subst, ◌∙◌, arith}
-use Rattle.std.specs.Prelude.{slice_get, ⊤}
+-- How many classes there are behind the types and classes of a script, and how many blocks they declare.
+use Rattle.std.proofs.Common.{◌≡◌, ℕ, suc, ◌+◌, ◌<◌, ◌≤◌, ◌^◌, Bool, true, false, if◌then◌else◌, List, [], ◌∷◌, ◌++◌, length, map, Option, refl, sym, ap, subst, ◌∙◌, arith}
 use Rattle.std.specs.List.{list_any}
 use Rattle.std.proofs.lemmas.List.{length-append, length-map}
 use Rattle.svr_operator.specs.declared.Rand.{Rand}
@@ -18,8 +17,7 @@ use Rattle.svr_elab_names.specs.declared.Vector.{Vector}
 use Rattle.svr_elab_names.specs.declared.ClassNames.{ClassNames}
 use Rattle.svr_elab_names.specs.Names.{Space, ClassName, is_same}
 use Rattle.svr_elab_names.specs.Tables.{class_of}
-use Rattle.svr_elab_part.specs.Fits.{Each}
-use Rattle.svr_elab_target.specs.Fits.{BlocksFit}
+use Rattle.svr_elab_target.specs.Fits.{blocks_declared, BlocksFit}
 use Rattle.svr_elab_type.specs.Types as types
 use Rattle.svr_elab_type.specs.Types.{EnumElab, GlobalsElab, declaring}
 use Rattle.svr_elab_decl.specs.Properties.{Used}
@@ -111,99 +109,66 @@ items_counted h c (tree.property p ∷ is) =
 items_counted h c (tree.block b ∷ is) =
     on_from (length c.blocks) 1 _ _ (own_blocks is) (items_counted h (class.class_item first_one h c (tree.block b)) is) (block_counted c (h.names.text b.name) b.name)
 
--- ---- how many blocks a class has
+-- ---- how many blocks all classes declare
 
-abbrev pub HaveFew : ℕ → List ClassName → Type 0
-HaveFew n cs = Each (λ (c : ClassName). length c.blocks ≤ n) cs
+declared_last : (cs : List ClassName) (c : ClassName) → blocks_declared (cs ++ c ∷ []) ≡ blocks_declared cs + length c.blocks
+declared_last [] c = from_none (length c.blocks)
+  where
+    from_none : (n : ℕ) → n + 0 ≡ 0 + n
+    from_none n = omega arith
+declared_last (x ∷ xs) c = joined (length x.blocks) (blocks_declared xs) (length c.blocks) (blocks_declared (xs ++ c ∷ [])) (declared_last xs c)
+  where
+    joined : (a b n m : ℕ) → m ≡ b + n → a + m ≡ a + b + n
+    joined a b n m e = omega (arith, e)
 
-at_number : (n : ℕ) (cs : List ClassName) (k : ℕ) → HaveFew n cs → length (class.blocks_of (slice_get cs k)) ≤ n
-at_number n [] k h = omega arith
-at_number n (c ∷ cs) zero h = h.0
-at_number n (c ∷ cs) (suc k) h = at_number n cs k h.1
+more_few : (n own declared e k : ℕ) → k ≡ declared + e → declared ≤ n → e ≤ 0 + own → k ≤ n + own
+more_few n own declared e k is h i = omega (arith, is, h, i)
 
-at_base : (n : ℕ) (cs : List ClassName) (b : Option ℕ) → HaveFew n cs → length (class.blocks_at cs b) ≤ n
-at_base n cs None h = omega arith
-at_base n cs (Some b) h = at_number n cs b h
+class_added : (n : ℕ) (s : Known) (c : ClassTree) → blocks_declared s.names.classes ≤ n → blocks_declared (class.class_decl first_one s c).names.classes ≤ n + own_blocks c.items
+class_added n s c h =
+    let head = class.class_head s c in
+    let e = class.class_body first_one head c.items in
+    more_few n (own_blocks c.items) (blocks_declared s.names.classes) (length e.blocks) _ (declared_last s.names.classes _) h
+    (items_counted head (class.class_start first_one head.names.classes head.base) c.items)
 
-left_or_kept : (t : Bool) (b : List ℕ) (xs : List (List ℕ)) (n : ℕ) → length xs ≤ n → length (if t then xs else b ∷ xs) ≤ suc n
-left_or_kept true b xs n h = omega (arith, h)
-left_or_kept false b xs n h = omega (arith, h)
+added : (k n : ℕ) → k ≤ n → k ≤ n + 0
+added k n h = omega (arith, h)
 
-without_fewer : (own bs : List (List ℕ)) → length (class.without own bs) ≤ length bs
-without_fewer own [] = omega arith
-without_fewer own (b ∷ bs) = left_or_kept (list_any (is_same b) own) b (class.without own bs) (length bs) (without_fewer own bs)
+grouped : (k n a b : ℕ) → k ≤ n + a + b → k ≤ n + (a + b)
+grouped k n a b h = omega (arith, h)
 
-sum_few : (n own base k b e : ℕ) → k ≡ b + e → b ≤ base → base ≤ n → e ≤ own → k ≤ n + own
-sum_few n own base k b e is h i j = omega (arith, is, h, i, j)
+abbrev DeclareFew : ℕ → List ClassName → Type 0
+DeclareFew n cs = blocks_declared cs ≤ n
 
-from_none : (k n : ℕ) → k ≤ 0 + n → k ≤ n
-from_none k n h = omega (arith, h)
-
-class_few : (n : ℕ) (s : Known) (c : ClassTree) → HaveFew n s.names.classes
-    → length (class.class_name s.names.classes (class.base_at s.names.text s.names.globals c.base) (s.names.text c.name) (class.class_body first_one (class.class_head s c) c.items)).blocks ≤ n + own_blocks c.items
-class_few n s c h =
-    let cs = s.names.classes in
-    let base = class.base_at s.names.text s.names.globals c.base in
-    let e = class.class_body first_one (class.class_head s c) c.items in
-    let bs = class.blocks_at cs base in
-    sum_few n (own_blocks c.items) (length bs) _ (length (class.without e.blocks bs)) (length e.blocks) (length-append (class.without e.blocks bs) e.blocks) (without_fewer e.blocks bs) (at_base n cs base h)
-    (from_none (length e.blocks) (own_blocks c.items) (items_counted (class.class_head s c) (class.class_start first_one (class.class_head s c).names.classes (class.class_head s c).base) c.items))
-
-weaker_one : (k n m : ℕ) → k ≤ n → n ≤ m → k ≤ m
-weaker_one k n m h e = omega (arith, h, e)
-
-weaker : (n m : ℕ) (cs : List ClassName) → n ≤ m → HaveFew n cs → HaveFew m cs
-weaker n m [] e h = tt
-weaker n m (c ∷ cs) e h = (weaker_one (length c.blocks) n m h.0 e, weaker n m cs e h.1)
-
-with_last : (n : ℕ) (cs : List ClassName) (c : ClassName) → HaveFew n cs → length c.blocks ≤ n → HaveFew n (cs ++ c ∷ [])
-with_last n [] c h k = (k, tt)
-with_last n (x ∷ xs) c h k = (h.0, with_last n xs c h.1 k)
-
-added : (a b : ℕ) → a ≤ a + b
-added a b = omega arith
-
-grouped : (n a b : ℕ) (cs : List ClassName) → HaveFew (n + a + b) cs → HaveFew (n + (a + b)) cs
-grouped n a b cs h = weaker (n + a + b) (n + (a + b)) cs (omega arith) h
-
-class_added : (n : ℕ) (s : Known) (c : ClassTree) → HaveFew n s.names.classes → HaveFew (n + own_blocks c.items) (class.class_decl first_one s c).names.classes
-class_added n s c h = with_last (n + own_blocks c.items) s.names.classes _ (weaker n (n + own_blocks c.items) s.names.classes (added n (own_blocks c.items)) h) (class_few n s c h)
-
-pub blocks_few : (n : ℕ) (s : Known) (os : List Top) (ts : List TypeTree) (cs : List ClassTree) → IsOrder ts cs os → HaveFew n s.names.classes
-    → HaveFew (n + blocks_in cs) (types_and_classes first_one s os ts cs).names.classes
-blocks_few n s [] [] [] o h = weaker n (n + 0) s.names.classes (added n 0) h
+pub blocks_few : (n : ℕ) (s : Known) (os : List Top) (ts : List TypeTree) (cs : List ClassTree) → IsOrder ts cs os → DeclareFew n s.names.classes
+    → DeclareFew (n + blocks_in cs) (types_and_classes first_one s os ts cs).names.classes
+blocks_few n s [] [] [] o h = added (blocks_declared s.names.classes) n h
 blocks_few n s [] [] (c ∷ cs) o h = absurd o
 blocks_few n s [] (t ∷ ts) [] o h = absurd o
 blocks_few n s [] (t ∷ ts) (c ∷ cs) o h = absurd o
 blocks_few n s (top.OfType ∷ os) [] [] o h = absurd o
 blocks_few n s (top.OfType ∷ os) [] (c ∷ cs) o h = absurd o
-blocks_few n s (top.OfType ∷ os) (t ∷ ts) cs o h = blocks_few n (types.type_decl first_one s t) os ts cs o (subst (HaveFew n) (sym (type_keeps s t)) h)
+blocks_few n s (top.OfType ∷ os) (t ∷ ts) cs o h = blocks_few n (types.type_decl first_one s t) os ts cs o (subst (DeclareFew n) (sym (type_keeps s t)) h)
 blocks_few n s (top.OfClass ∷ os) [] [] o h = absurd o
 blocks_few n s (top.OfClass ∷ os) (t ∷ ts) [] o h = absurd o
-blocks_few n s (top.OfClass ∷ os) [] (c ∷ cs) o h = grouped n (own_blocks c.items) (blocks_in cs) _ (blocks_few (n + own_blocks c.items) (class.class_decl first_one s c) os [] cs o (class_added n s c h))
+blocks_few n s (top.OfClass ∷ os) [] (c ∷ cs) o h = grouped _ n (own_blocks c.items) (blocks_in cs) (blocks_few (n + own_blocks c.items) (class.class_decl first_one s c) os [] cs o (class_added n s c h))
 blocks_few n s (top.OfClass ∷ os) (t ∷ ts) (c ∷ cs) o h =
-    grouped n (own_blocks c.items) (blocks_in cs) _ (blocks_few (n + own_blocks c.items) (class.class_decl first_one s c) os (t ∷ ts) cs o (class_added n s c h))
+    grouped _ n (own_blocks c.items) (blocks_in cs) (blocks_few (n + own_blocks c.items) (class.class_decl first_one s c) os (t ∷ ts) cs o (class_added n s c h))
 
 -- ---- the same where calls list properties
 
-few_each : (n : ℕ) (cs : List ClassName) → n < 2 ^ 32 → HaveFew n cs → Each (λ (c : ClassName). length c.blocks < 2 ^ 32) cs
-few_each n [] few h = tt
-few_each n (c ∷ cs) few h = (under (length c.blocks) n h.0 few, few_each n cs few h.1)
+pub blocks_fit : (n : ℕ) (m : Space) → n < 2 ^ 32 → DeclareFew n m.classes → BlocksFit m
+blocks_fit n m few h = record { few = under (blocks_declared m.classes) n h few }
   where
     under : (k n : ℕ) → k ≤ n → n < 2 ^ 32 → k < 2 ^ 32
     under k n h few = omega (arith, h, few)
 
-pub blocks_fit : (n : ℕ) (m : Space) → n < 2 ^ 32 → HaveFew n m.classes → BlocksFit m
-blocks_fit n m few h = record { classes = few_each n m.classes few h }
-
-marked_each : (hs : List Home) (cs : List ClassName) → Each (λ (c : ClassName). length c.blocks < 2 ^ 32) cs → Each (λ (c : ClassName). length c.blocks < 2 ^ 32) (classes_with hs cs)
-marked_each hs [] h = tt
-marked_each hs (c ∷ cs) h = (h.0, marked_each hs cs h.1)
+declared_marked : (hs : List Home) (cs : List ClassName) → blocks_declared (classes_with hs cs) ≡ blocks_declared cs
+declared_marked hs [] = refl
+declared_marked hs (c ∷ cs) = ap (λ (n : ℕ). length c.blocks + n) (declared_marked hs cs)
 
 pub marked_fit : (hs : List Home) (m n : Space) → m.classes ≡ classes_with hs n.classes → BlocksFit n → BlocksFit m
-marked_fit hs m n e h =
-    let Fit : List ClassName → Type 0 = λ cs. Each (λ (c : ClassName). length c.blocks < 2 ^ 32) cs in
-    record { classes = subst Fit (sym e) (marked_each hs n.classes h.classes) }
+marked_fit hs m n e h = record { few = subst (λ (k : ℕ). k < 2 ^ 32) (sym (ap blocks_declared e ∙ declared_marked hs n.classes)) h.few }
 
 -- ---- behind the types and classes of a script
 
@@ -222,4 +187,5 @@ none_before n h = omega (arith, h)
 pub heads_fit : (text : ℕ → List ℕ) (s : ScriptTree) (h : Known) → IsOrder s.types s.classes s.order → blocks_in s.classes < 2 ^ 32 → h ≡ heads first_one text s → BlocksFit h.names
 heads_fit text s h o few is =
     let P : Known → Type 0 = λ h. BlocksFit h.names in
-    subst P (sym is) (blocks_fit (0 + blocks_in s.classes) (heads first_one text s).names (none_before (blocks_in s.classes) few) (blocks_few 0 (no_globals first_one text) s.order s.types s.classes o tt))
+    let none : 0 ≤ 0 = omega arith in
+    subst P (sym is) (blocks_fit (0 + blocks_in s.classes) (heads first_one text s).names (none_before (blocks_in s.classes) few) (blocks_few 0 (no_globals first_one text) s.order s.types s.classes o none))

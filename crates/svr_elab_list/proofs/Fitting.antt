@@ -19,7 +19,7 @@ pub members_made : (m n : Space) (made : List ℕ) → m ≡ with_made n made �
 members_made m n made e h = subst MembersFit (sym e) (record { globals = h.globals })
 
 pub blocks_made : (m n : Space) (made : List ℕ) → m ≡ with_made n made → BlocksFit n → BlocksFit m
-blocks_made m n made e h = subst BlocksFit (sym e) (record { classes = h.classes })
+blocks_made m n made e h = subst BlocksFit (sym e) (record { few = h.few })
 
 pub members_in_line : (m n : Space) (ps : List PropName) → m ≡ in_line_with n ps → MembersFit n → MembersFit m
 members_in_line m n ps e h = subst MembersFit (sym e) (record { globals = h.globals })
