@@ -1,6 +1,6 @@
 -- A class of a design has a block for each name of one that its class has.
 use Rattle.std.proofs.Common.{◌≡◌, ℕ, zero, suc, ◌+◌, ◌≤◌, cond, Bool, true, false, not, ◌||◌, if◌then◌else◌, List, [], ◌∷◌, ◌++◌, length, map, append-nil, Option, None, Some, refl, sym, ap, subst, ◌∙◌, true≢false, arith}
-use Rattle.std.specs.Prelude.{⊤, slice_get, slice_index_or, bytes_eq, MatchOption}
+use Rattle.std.specs.Prelude.{⊤, slice_index_or, bytes_eq, MatchOption}
 use Rattle.std.specs.List.{list_any}
 use Rattle.std.specs.Cmp.Lexicographic.{nat_list_eq_equiv}
 use Rattle.svr_typed.specs.declared.EnumType.{EnumType}
@@ -28,14 +28,14 @@ use Rattle.svr_elab_type.specs.Types.{GlobalsElab, EnumElab}
 use Rattle.svr_elab_decl.specs.Properties as property_spec
 use Rattle.svr_elab_decl.specs.Properties.{Used, UsedElab, DimsElab}
 use Rattle.svr_elab_class.specs.Classes as spec
-use Rattle.svr_elab_class.specs.Classes.{Head, ClassElab, without, blocks_at, class_decl}
+use Rattle.svr_elab_class.specs.Classes.{Head, ClassElab, class_decl}
 use Rattle.svr_elab_tops.specs.InOrder.{types_and_classes}
 use Rattle.svr_elab_item.specs.Items.{ItemsElab, items, no_items, outside}
 use Rattle.svr_elab_block.specs.Blocks as blocks
 use Rattle.svr_elab_block.specs.Blocks.{BodyElab, BodiesElab, and_name, and_declared, in_class}
-use Rattle.svr_elab_target.specs.Named.{class_blocks}
+use Rattle.svr_elab_target.specs.Blocks.{without, names_at, flat_names, flat_names_after, class_blocks}
 use Rattle.svr_elab_random.specs.declared.Home.{Home}
-use Rattle.svr_elab_random.specs.Random.{classes_with, with_lists}
+use Rattle.svr_elab_random.specs.Random.{classes_with}
 use Rattle.svr_elab_unit.specs.Listed.{all_listed}
 use Rattle.svr_elab_unit.specs.Vars.{stmt_space}
 use Rattle.svr_elab.specs.Script as script
@@ -245,21 +245,20 @@ bodies_named n s k (c ∷ cs) done h =
 
 -- ---- the names of classes
 
--- behind these classes
-abbrev ClassNamed : (ℕ → List ℕ) → List ClassName → ClassName → ClassTree → Type 0
-ClassNamed text done c t = c.blocks ≡ without (block_names text t) (blocks_at done c.base) ++ block_names text t
+abbrev ClassNamed : (ℕ → List ℕ) → ClassName → ClassTree → Type 0
+ClassNamed text c t = c.blocks ≡ block_names text t
 
-abbrev NamedBy : (ℕ → List ℕ) → List ClassName → List ClassName → List ClassTree → Type 0
-NamedBy text done [] [] = ⊤
-NamedBy text done [] (t ∷ ts) = ⊥
-NamedBy text done (c ∷ cs) [] = ⊥
-NamedBy text done (c ∷ cs) (t ∷ ts) = ClassNamed text done c t × NamedBy text (done ++ c ∷ []) cs ts
+abbrev NamedBy : (ℕ → List ℕ) → List ClassName → List ClassTree → Type 0
+NamedBy text [] [] = ⊤
+NamedBy text [] (t ∷ ts) = ⊥
+NamedBy text (c ∷ cs) [] = ⊥
+NamedBy text (c ∷ cs) (t ∷ ts) = ClassNamed text c t × NamedBy text cs ts
 
-named_last : (text : ℕ → List ℕ) (done cs : List ClassName) (ts : List ClassTree) (c : ClassName) (t : ClassTree) → NamedBy text done cs ts → ClassNamed text (done ++ cs) c t → NamedBy text done (cs ++ c ∷ []) (ts ++ t ∷ [])
-named_last text done [] [] c t h k = (subst (λ (ds : List ClassName). ClassNamed text ds c t) (append-nil done) k, tt)
-named_last text done [] (u ∷ ts) c t h k = absurd h
-named_last text done (d ∷ cs) [] c t h k = absurd h
-named_last text done (d ∷ cs) (u ∷ ts) c t h k = (h.0, named_last text (done ++ d ∷ []) cs ts c t h.1 (subst (λ (ds : List ClassName). ClassNamed text ds c t) (moved done d cs) k))
+named_last : (text : ℕ → List ℕ) (cs : List ClassName) (ts : List ClassTree) (c : ClassName) (t : ClassTree) → NamedBy text cs ts → ClassNamed text c t → NamedBy text (cs ++ c ∷ []) (ts ++ t ∷ [])
+named_last text [] [] c t h k = (k, tt)
+named_last text [] (u ∷ ts) c t h k = absurd h
+named_last text (d ∷ cs) [] c t h k = absurd h
+named_last text (d ∷ cs) (u ∷ ts) c t h k = (h.0, named_last text cs ts c t h.1 k)
 
 members_text : (base : Option Vector) (ms : List MemberTree) (t : EnumElab (Option Fault)) → (types.enum_members first_one base t ms).names.text ≡ t.names.text
 members_text base [] t = refl
@@ -283,55 +282,42 @@ heads_text [] (c ∷ cs) (top.OfClass ∷ os) s o = heads_text [] cs os (class_d
 heads_text (t ∷ ts) (c ∷ cs) (top.OfClass ∷ os) s o = heads_text (t ∷ ts) cs os (class_decl first_one s c) o
 
 class_named : (text : ℕ → List ℕ) (s : GlobalsElab (Option Fault)) (c : ClassTree) → s.names.text ≡ text
-    → (let h : Head = spec.class_head s c in ClassNamed text s.names.classes (spec.class_name s.names.classes (spec.base_at s.names.text s.names.globals c.base) (s.names.text c.name) (spec.class_body first_one h c.items)) c)
+    → (let h : Head = spec.class_head s c in ClassNamed text (spec.class_name s.names.classes (spec.base_at s.names.text s.names.globals c.base) (s.names.text c.name) (spec.class_body first_one h c.items)) c)
 class_named text s c e =
     let cs : List ClassName = s.names.classes in
     let base : Option ℕ = spec.base_at s.names.text s.names.globals c.base in
     let h : Head = spec.class_head s c in
     let start : Class = spec.class_start first_one cs base in
-    let own : (spec.class_body first_one h c.items).blocks ≡ block_names text c = class_names h start c.items ∙ ap (λ (text : ℕ → List ℕ). block_names text c) e in
-    ap (λ (ns : Names). without ns (blocks_at cs base) ++ ns) own
+    class_names h start c.items ∙ ap (λ (text : ℕ → List ℕ). block_names text c) e
 
-one_class : (text : ℕ → List ℕ) (s : GlobalsElab (Option Fault)) (c : ClassTree) (done : List ClassTree) → s.names.text ≡ text → NamedBy text [] s.names.classes done → NamedBy text [] (class_decl first_one s c).names.classes (done ++ c ∷ [])
-one_class text s c done e h = named_last text [] s.names.classes done _ c h (class_named text s c e)
+one_class : (text : ℕ → List ℕ) (s : GlobalsElab (Option Fault)) (c : ClassTree) (done : List ClassTree) → s.names.text ≡ text → NamedBy text s.names.classes done → NamedBy text (class_decl first_one s c).names.classes (done ++ c ∷ [])
+one_class text s c done e h = named_last text s.names.classes done _ c h (class_named text s c e)
 
-named_heads : (text : ℕ → List ℕ) (ts : List TypeTree) (cs : List ClassTree) (os : List Top) (s : GlobalsElab (Option Fault)) (done : List ClassTree) → IsOrder ts cs os → s.names.text ≡ text → NamedBy text [] s.names.classes done
-    → NamedBy text [] (types_and_classes first_one s os ts cs).names.classes (done ++ cs)
-named_heads text [] [] [] s done o e h = subst (NamedBy text [] s.names.classes) (sym (append-nil done)) h
+named_heads : (text : ℕ → List ℕ) (ts : List TypeTree) (cs : List ClassTree) (os : List Top) (s : GlobalsElab (Option Fault)) (done : List ClassTree) → IsOrder ts cs os → s.names.text ≡ text → NamedBy text s.names.classes done
+    → NamedBy text (types_and_classes first_one s os ts cs).names.classes (done ++ cs)
+named_heads text [] [] [] s done o e h = subst (NamedBy text s.names.classes) (sym (append-nil done)) h
 named_heads text [] (c ∷ cs) [] s done o e h = absurd o
 named_heads text (t ∷ ts) [] [] s done o e h = absurd o
 named_heads text (t ∷ ts) (c ∷ cs) [] s done o e h = absurd o
 named_heads text [] [] (top.OfType ∷ os) s done o e h = absurd o
 named_heads text [] (c ∷ cs) (top.OfType ∷ os) s done o e h = absurd o
 named_heads text (t ∷ ts) cs (top.OfType ∷ os) s done o e h =
-    named_heads text ts cs os (types.type_decl first_one s t) done o (type_text s t.name t.definition ∙ e) (subst (λ (cs : List ClassName). NamedBy text [] cs done) (sym (type_classes s t.name t.definition)) h)
+    named_heads text ts cs os (types.type_decl first_one s t) done o (type_text s t.name t.definition ∙ e) (subst (λ (cs : List ClassName). NamedBy text cs done) (sym (type_classes s t.name t.definition)) h)
 named_heads text [] [] (top.OfClass ∷ os) s done o e h = absurd o
 named_heads text (t ∷ ts) [] (top.OfClass ∷ os) s done o e h = absurd o
 named_heads text [] (c ∷ cs) (top.OfClass ∷ os) s done o e h =
     let next : GlobalsElab (Option Fault) = class_decl first_one s c in
-    subst (NamedBy text [] (types_and_classes first_one next os [] cs).names.classes) (sym (moved done c cs)) (named_heads text [] cs os next (done ++ c ∷ []) o e (one_class text s c done e h))
+    subst (NamedBy text (types_and_classes first_one next os [] cs).names.classes) (sym (moved done c cs)) (named_heads text [] cs os next (done ++ c ∷ []) o e (one_class text s c done e h))
 named_heads text (t ∷ ts) (c ∷ cs) (top.OfClass ∷ os) s done o e h =
     let next : GlobalsElab (Option Fault) = class_decl first_one s c in
-    subst (NamedBy text [] (types_and_classes first_one next os (t ∷ ts) cs).names.classes) (sym (moved done c cs)) (named_heads text (t ∷ ts) cs os next (done ++ c ∷ []) o e (one_class text s c done e h))
+    subst (NamedBy text (types_and_classes first_one next os (t ∷ ts) cs).names.classes) (sym (moved done c cs)) (named_heads text (t ∷ ts) cs os next (done ++ c ∷ []) o e (one_class text s c done e h))
 
 -- which of their properties calls list makes no difference
-blocks_listed : (hs : List Home) (cs : List ClassName) (k : ℕ) → spec.blocks_of (slice_get (classes_with hs cs) k) ≡ spec.blocks_of (slice_get cs k)
-blocks_listed hs [] k = refl
-blocks_listed hs (c ∷ cs) zero = refl
-blocks_listed hs (c ∷ cs) (suc k) = blocks_listed hs cs k
-
-base_listed : (hs : List Home) (cs : List ClassName) (b : Option ℕ) → blocks_at (classes_with hs cs) b ≡ blocks_at cs b
-base_listed hs cs None = refl
-base_listed hs cs (Some b) = blocks_listed hs cs b
-
-named_listed : (text : ℕ → List ℕ) (hs : List Home) (done cs : List ClassName) (ts : List ClassTree) → NamedBy text done cs ts → NamedBy text (classes_with hs done) (classes_with hs cs) ts
-named_listed text hs done [] [] h = tt
-named_listed text hs done [] (t ∷ ts) h = absurd h
-named_listed text hs done (c ∷ cs) [] h = absurd h
-named_listed text hs done (c ∷ cs) (t ∷ ts) h = (
-  h.0 ∙ ap (λ (bs : Names). without (block_names text t) bs ++ block_names text t) (sym (base_listed hs done c.base)),
-  subst (λ (ds : List ClassName). NamedBy text ds (classes_with hs cs) ts) (map_last (with_lists hs) done c) (named_listed text hs (done ++ c ∷ []) cs ts h.1),
-)
+named_listed : (text : ℕ → List ℕ) (hs : List Home) (cs : List ClassName) (ts : List ClassTree) → NamedBy text cs ts → NamedBy text (classes_with hs cs) ts
+named_listed text hs [] [] h = tt
+named_listed text hs [] (t ∷ ts) h = absurd h
+named_listed text hs (c ∷ cs) [] h = absurd h
+named_listed text hs (c ∷ cs) (t ∷ ts) h = (h.0, named_listed text hs cs ts h.1)
 
 -- ---- with what they inherit
 
@@ -357,50 +343,40 @@ map_both : {A B : Type 0} (f : A → B) (xs ys : List A) → map f xs ++ map f y
 map_both f [] ys = refl
 map_both f (x ∷ xs) ys = ap (λ zs. f x ∷ zs) (map_both f xs ys)
 
-abbrev FlatsNamed : List ClassName → List FlatTerm → Type 0
-FlatsNamed [] [] = ⊤
-FlatsNamed [] (f ∷ fs) = ⊥
-FlatsNamed (c ∷ cs) [] = ⊥
-FlatsNamed (c ∷ cs) (f ∷ fs) = (c.blocks ≡ map name_of f.blocks) × FlatsNamed cs fs
+abbrev names_in : FlatTerm → Names
+names_in f = map name_of f.blocks
 
-flats_more : (cs : List ClassName) (fs : List FlatTerm) (c : ClassName) (f : FlatTerm) → FlatsNamed cs fs → c.blocks ≡ map name_of f.blocks → FlatsNamed (cs ++ c ∷ []) (fs ++ f ∷ [])
-flats_more [] [] c f h k = (k, tt)
-flats_more [] (g ∷ fs) c f h k = absurd h
-flats_more (d ∷ cs) [] c f h k = absurd h
-flats_more (d ∷ cs) (g ∷ fs) c f h k = (h.0, flats_more cs fs c f h.1 k)
+flat_named : (fs : List FlatTerm) (k : ℕ) → names_in (slice_index_or fs k no_class) ≡ slice_index_or (map names_in fs) k []
+flat_named [] k = refl
+flat_named (f ∷ fs) zero = refl
+flat_named (f ∷ fs) (suc k) = flat_named fs k
 
-flat_named : (cs : List ClassName) (fs : List FlatTerm) (k : ℕ) → FlatsNamed cs fs → spec.blocks_of (slice_get cs k) ≡ map name_of (slice_index_or fs k no_class).blocks
-flat_named [] [] k h = refl
-flat_named [] (f ∷ fs) k h = absurd h
-flat_named (c ∷ cs) [] k h = absurd h
-flat_named (c ∷ cs) (f ∷ fs) zero h = h.0
-flat_named (c ∷ cs) (f ∷ fs) (suc k) h = flat_named cs fs k h.1
+base_named : (fs : List FlatTerm) (b : Option ℕ) → names_in (base_of fs b) ≡ names_at (map names_in fs) b
+base_named fs None = refl
+base_named fs (Some b) = flat_named fs b
 
-base_named : (cs : List ClassName) (fs : List FlatTerm) (b : Option ℕ) → FlatsNamed cs fs → blocks_at cs b ≡ map name_of (base_of fs b).blocks
-base_named cs fs None h = refl
-base_named cs fs (Some b) h = flat_named cs fs b h
-
-flats_named : (es : List EnumType) (text : ℕ → List ℕ) (done rest : List ClassName) (earlier : List FlatTerm) (bs : List (List BlockTerm)) (ts : List ClassTerm) (us : List ClassTree) → FlatsNamed done earlier → NamedBy text done rest us → BodiesNamed text bs us
-    → TermsAre es rest bs ts → FlatsNamed (done ++ rest) (flat_after earlier ts)
-flats_named es text done [] earlier bs [] us f n b h = subst (λ (cs : List ClassName). FlatsNamed cs earlier) (sym (append-nil done)) f
-flats_named es text done [] earlier bs (t ∷ ts) us f n b h = absurd h
-flats_named es text done (c ∷ cs) earlier [] [] us f n b h = absurd h
-flats_named es text done (c ∷ cs) earlier [] (t ∷ ts) us f n b h = absurd h
-flats_named es text done (c ∷ cs) earlier (x ∷ bs) [] us f n b h = absurd h
-flats_named es text done (c ∷ cs) earlier (x ∷ bs) (t ∷ ts) [] f n b h = absurd n
-flats_named es text done (c ∷ cs) earlier (x ∷ bs) (t ∷ ts) (u ∷ us) f n b h =
+flats_named : (es : List EnumType) (text : ℕ → List ℕ) (cs : List ClassName) (earlier : List FlatTerm) (bs : List (List BlockTerm)) (ts : List ClassTerm) (us : List ClassTree) → NamedBy text cs us → BodiesNamed text bs us
+    → TermsAre es cs bs ts → map names_in (flat_after earlier ts) ≡ flat_names_after (map names_in earlier) cs
+flats_named es text [] earlier bs [] us n b h = refl
+flats_named es text [] earlier bs (t ∷ ts) us n b h = absurd h
+flats_named es text (c ∷ cs) earlier [] [] us n b h = absurd h
+flats_named es text (c ∷ cs) earlier [] (t ∷ ts) us n b h = absurd h
+flats_named es text (c ∷ cs) earlier (x ∷ bs) [] us n b h = absurd h
+flats_named es text (c ∷ cs) earlier (x ∷ bs) (t ∷ ts) [] n b h = absurd n
+flats_named es text (c ∷ cs) earlier (x ∷ bs) (t ∷ ts) (u ∷ us) n b h =
     let base : List BlockTerm = (base_of earlier t.base).blocks in
     let flat : FlatTerm = derived_class (base_of earlier t.base) t in
-    let own : block_names text u ≡ map name_of t.blocks = sym b.0 ∙ ap (λ (bs : List BlockTerm). map name_of bs) (sym h.0.blocks) in
-    let inherited : blocks_at done c.base ≡ map name_of base = base_named done earlier c.base f ∙ ap (λ (o : Option ℕ). map name_of (base_of earlier o).blocks) (sym h.0.base) in
-    let here : c.blocks ≡ map name_of flat.blocks =
-    n.0 ∙ ap (λ (ns : Names). without ns (blocks_at done c.base) ++ ns) own ∙ ap (λ (bs : Names). without (map name_of t.blocks) bs ++ map name_of t.blocks) inherited
-    ∙ ap (λ (bs : Names). bs ++ map name_of t.blocks) (kept_same t.blocks base) ∙ map_both name_of (not_replaced t.blocks base) t.blocks in
-    subst (λ (cs : List ClassName). FlatsNamed cs (flat_after (earlier ++ flat ∷ []) ts)) (sym (moved done c cs)) (flats_named es text (done ++ c ∷ []) cs (earlier ++ flat ∷ []) bs ts us (flats_more done earlier c flat f here) n.1 b.1 h.1)
+    let own : c.blocks ≡ map name_of t.blocks = n.0 ∙ sym b.0 ∙ ap (λ (bs : List BlockTerm). map name_of bs) (sym h.0.blocks) in
+    let inherited : map name_of base ≡ names_at (map names_in earlier) c.base = base_named earlier t.base ∙ ap (names_at (map names_in earlier)) h.0.base in
+    let here : names_in flat ≡ flat_names (map names_in earlier) c =
+    sym (map_both name_of (not_replaced t.blocks base) t.blocks) ∙ ap (λ (ns : Names). ns ++ map name_of t.blocks) (sym (kept_same t.blocks base))
+    ∙ ap (λ (ns : Names). without ns (map name_of base) ++ ns) (sym own) ∙ ap (λ (ns : Names). without c.blocks ns ++ c.blocks) inherited in
+    flats_named es text cs (earlier ++ flat ∷ []) bs ts us n.1 b.1 h.1
+    ∙ ap (λ (done : List Names). flat_names_after done cs) (map_last names_in earlier flat ∙ ap (λ (ns : Names). map names_in earlier ++ ns ∷ []) here)
 
-class_has : (cs : List ClassName) (ts : List ClassTerm) (k : ℕ) → FlatsNamed cs (flat_classes ts) → spec.blocks_of (slice_get cs k) ≡ map name_of (flat_class_of ts k).blocks
+class_has : (cs : List ClassName) (ts : List ClassTerm) (k : ℕ) → map names_in (flat_classes ts) ≡ flat_names_after [] cs → class_blocks cs k ≡ names_in (flat_class_of ts k)
 unfolding flat_class_of
-class_has cs ts k h = flat_named cs (flat_classes ts) k h
+class_has cs ts k h = ap (λ (done : List Names). slice_index_or done k []) (sym h) ∙ sym (flat_named (flat_classes ts) k)
 
 as_long : (bs : List BlockTerm) → length (map name_of bs) ≤ length bs
 as_long [] = omega arith
@@ -413,22 +389,18 @@ of_bodies : (text : ℕ → List ℕ) (o : Option (List (List BlockTerm))) (bs :
 of_bodies text None bs us e h = absurd (let f : None ≡ Some bs = e in cc)
 of_bodies text (Some cs) bs us e h = subst (λ (bs : List (List BlockTerm)). BodiesNamed text bs us) (some_same cs bs e) h
 
-same_blocks : (o : Option ClassName) → spec.blocks_of o ≡ class_blocks o
-same_blocks None = refl
-same_blocks (Some c) = refl
-
 pub blocks_are_named : BlocksAreNamed
 blocks_are_named text s is f =
     let clear : IsClear text s = script_clear text s f in
     let n : Space = the_space text s in
     let start : GlobalsElab (Option Fault) = script.no_globals first_one text in
-    let heads : NamedBy n.text [] (the_heads text s).names.classes s.classes = named_heads n.text s.types s.classes s.order start [] is.order (sym (heads_text s.types s.classes s.order start is.order)) tt in
+    let heads : NamedBy n.text (the_heads text s).names.classes s.classes = named_heads n.text s.types s.classes s.order start [] is.order (sym (heads_text s.types s.classes s.order start is.order)) tt in
     let hs : List Home = all_listed (stmt_space (the_heads text s).names (the_vars text s).vars) [] (stmts_of s.unit.stmts) in
-    let names : NamedBy n.text [] n.classes s.classes = named_listed n.text hs [] (the_heads text s).names.classes s.classes heads in
+    let names : NamedBy n.text n.classes s.classes = named_listed n.text hs (the_heads text s).names.classes s.classes heads in
     let bodies : AllNamed n.text (the_bodies text s).blocks s.classes = bodies_named n (blocks.no_bodies first_one) 0 s.classes [] tt in
     of_design (λ (d : DesignTerm). BlocksNamed d n) text s
     (λ c v t a b e. λ k.
     let dc : DesignClasses text s c = design_classes text s c is clear a in
-    let flats : FlatsNamed n.classes (flat_classes c) =
-    flats_named (the_heads text s).enums n.text [] n.classes [] dc.blocks c s.classes tt names (of_bodies n.text (the_bodies text s).blocks dc.blocks s.classes dc.bodies bodies) dc.are in
-    subst (λ (ns : Names). length ns ≤ length (flat_class_of c k).blocks) (sym (class_has n.classes c k flats) ∙ same_blocks (slice_get n.classes k)) (as_long (flat_class_of c k).blocks))
+    let flats : map names_in (flat_classes c) ≡ flat_names_after [] n.classes =
+    flats_named (the_heads text s).enums n.text n.classes [] dc.blocks c s.classes names (of_bodies n.text (the_bodies text s).blocks dc.blocks s.classes dc.bodies bodies) dc.are in
+    subst (λ (ns : Names). length ns ≤ length (flat_class_of c k).blocks) (sym (class_has n.classes c k flats)) (as_long (flat_class_of c k).blocks))

@@ -56,7 +56,8 @@ use Rattle.svr_elab_target.specs.declared.target.Target.TheVariants as target
 use Rattle.svr_elab_target.specs.Targets as targets
 use Rattle.svr_elab_target.specs.Targets.{target_of, root_target}
 use Rattle.svr_elab_target.specs.Named as called
-use Rattle.svr_elab_target.specs.Named.{ObjectPath, object_path, with_made, in_line_space, class_blocks, misplaced, use_faults, unknown_at, wrong_rest, list_faults, names_faults, name_faults, and_listed, answer_faults, call_list_of, numbers_of, member_number, mode_member, block_number, property_number}
+use Rattle.svr_elab_target.specs.Named.{ObjectPath, object_path, with_made, in_line_space, misplaced, use_faults, unknown_at, wrong_rest, list_faults, names_faults, name_faults, and_listed, answer_faults, call_list_of, numbers_of, member_number, mode_member, property_number}
+use Rattle.svr_elab_target.specs.Blocks.{class_blocks, block_number}
 use Rattle.svr_elab_item.specs.Items.{ItemsElab, items, no_items, outside}
 use Rattle.svr_elab_stmt.specs.Fits.{ValuesFit, RightFits, StmtFits, StmtsFit}
 use Rattle.svr_elab_stmt.specs.Stmts as spec
@@ -566,7 +567,7 @@ module _ (d : DesignTerm) where
       named_below ps (n.text name) (length (flat_class_of d.classes c).props) (class_below n h c) (property_named ps (n.text name)) (named_is ps (n.text name) (h.places c))
   member_is n h mode_kind.Constraint c [] = tt
   member_is n h mode_kind.Constraint c (name ∷ rest) =
-      let bs : List (List ℕ) = class_blocks (slice_get n.classes c) in
+      let bs : List (List ℕ) = class_blocks n.classes c in
       block_below (length (flat_class_of d.classes c).blocks) bs (h.blocks c) (find_from (λ b. b) (n.text name) 0 bs) (found_below (n.text name) 0 bs)
 
   mode_good : (k : ModeKind) (x : ℕ × ℕ) (p : Option ℕ) (t : Option ExprTerm) → ClassOf x → MemberIs k x.1 p → Values t → StandsThere (option_map (spec.mode_term k x.0 p) t)

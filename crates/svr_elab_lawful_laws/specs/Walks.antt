@@ -1,5 +1,5 @@
 -- What is accepted among statements stands in the design (IEEE 1800-2017, clauses 8.7, 10, 12 and 18).
-use Rattle.std.specs.Prelude.{◌≡◌, ◌≤◌, ℕ, false, List, [], ◌∷◌, length, Option, Some, None, MatchOption, ⊤, slice_get}
+use Rattle.std.specs.Prelude.{◌≡◌, ◌≤◌, ℕ, false, List, [], ◌∷◌, length, Option, Some, None, MatchOption, ⊤}
 use Rattle.svr_typed.specs.ItemTerm.{items_of}
 use Rattle.svr_typed.specs.StmtTerm.{DesignTerm}
 use Rattle.svr_limits.specs.declared.limit.TheConstants.{HEIGHT_LIMIT}
@@ -16,7 +16,8 @@ use Rattle.svr_design.specs.Statements.{StmtStands, AllStmtsStand}
 use Rattle.svr_elab_fault.specs.Refusals.{first_one}
 use Rattle.svr_elab_names.specs.Names.{Space, class_props}
 use Rattle.svr_elab_part.specs.Fits.{NamesFit}
-use Rattle.svr_elab_target.specs.Named.{class_blocks, with_made, in_line_space}
+use Rattle.svr_elab_target.specs.Blocks.{class_blocks}
+use Rattle.svr_elab_target.specs.Named.{with_made, in_line_space}
 use Rattle.svr_elab_item.specs.Fits.{ItemsFit}
 use Rattle.svr_elab_item.specs.Items.{items, no_items, outside}
 use Rattle.svr_elab_stmt.specs.Fits.{StmtFits}
@@ -62,7 +63,7 @@ pub record StatementPlace (d : DesignTerm) (n : Space) : Type 0 where
   pub stands : InStatement d n
   pub fits : NamesFit n
   pub places : (c : ℕ) → PlacedFrom 0 (class_props n.classes c)
-  pub blocks : (c : ℕ) → length (class_blocks (slice_get n.classes c)) ≤ length (flat_class_of d.classes c).blocks
+  pub blocks : (c : ℕ) → length (class_blocks n.classes c) ≤ length (flat_class_of d.classes c).blocks
 
 -- accepted sets stand in the design, which is proved of constraint items elsewhere
 abbrev pub SetsStand : DesignTerm → Space → Type 0
@@ -77,7 +78,7 @@ AcceptedStatementsStand =
 
 -- a class has a block for each name of one
 abbrev pub BlocksNamed : DesignTerm → Space → Type 0
-BlocksNamed d n = (c : ℕ) → length (class_blocks (slice_get n.classes c)) ≤ length (flat_class_of d.classes c).blocks
+BlocksNamed d n = (c : ℕ) → length (class_blocks n.classes c) ≤ length (flat_class_of d.classes c).blocks
 
 abbrev pub TopsAre : List StmtTree → Type 0
 TopsAre [] = ⊤
