@@ -169,6 +169,33 @@ def blocks(size):
     return filled(size, front, lambda k: f"constraint c{k} {{ a <= 1; }}\n", script("endclass\n", "p.randomize();\n"))
 
 
+def modes(size):
+    """Blocks of a class, and a statement for each, as far as it goes, that switches it off."""
+    front = filled(size // 2, "class P;\n", lambda k: f"constraint c{k} {{}}\n", "endclass\nmodule m;\nP p = new;\ninitial begin\n")
+    count = front.count("constraint")
+    return filled(size, front, lambda k: f"p.c{k % count}.constraint_mode(0);\n", "p.randomize();\nend\nendmodule\n")
+
+
+def inherited_modes(size):
+    """The same with an object of a class that extends the one with the blocks."""
+    front = filled(size // 2, "class B;\n", lambda k: f"constraint c{k} {{}}\n", "endclass\nclass P extends B;\nendclass\nmodule m;\nP p = new;\ninitial begin\n")
+    count = front.count("constraint")
+    return filled(size, front, lambda k: f"p.c{k % count}.constraint_mode(0);\n", "p.randomize();\nend\nendmodule\n")
+
+
+def ordered_classes(size):
+    """A chain of classes, each of which adds a block that orders two properties."""
+    back = script("", "p.randomize();\n", "C0 p = new;\n")
+    return filled(size, "class C0;\nrand bit a, b;\nendclass\n", lambda k: f"class C{k + 1} extends C{k};\nconstraint c{k} {{ solve a before b; }}\nendclass\n", back)
+
+
+def wide_classes(size):
+    """Classes that each extend one with 1,000 properties."""
+    declared = "".join(f"bit p{i};\n" for i in range(1000))
+    back = script("", "p.randomize();\n", "B p = new;\n")
+    return filled(size, f"class B;\n{declared}endclass\n", lambda k: f"class C{k} extends B;\nendclass\n", back)
+
+
 def replaced(size):
     """Blocks of a class, each of which a derived class replaces."""
     half = size // 2
@@ -215,16 +242,34 @@ def searched_members(size):
     return text + " " * (size - len(text))
 
 
-def cyclic(size):
-    """Cyclic properties whose values an item leaves one of: 1,024 at 4 MiB."""
+def called_on_cyclic(size, calls):
+    """Cyclic properties whose values an item leaves one of: 1,024 at 4 MiB; and calls."""
     count = size // 4096
     declared = "".join(f"randc bit [7:0] p{i};\n" for i in range(count))
     held = "".join(f"p{i} == 8'd{i % 256};\n" for i in range(count))
-    text = script(f"class P;\n{declared}constraint c {{\n{held}}}\nendclass\n", "p.randomize();\n")
+    text = script(f"class P;\n{declared}constraint c {{\n{held}}}\nendclass\n", "p.randomize();\n" * calls)
     return text + " " * (size - len(text))
 
 
-KINDS = [comment, name, properties, variables, statements, calls, arrays, loops, parentheses, classes, grown_classes, last_class, used_classes, made_classes, objects, blocks, replaced, solves, uniques, softs, disables, members, searched_members, cyclic]
+def cyclic(size):
+    """One call on cyclic properties."""
+    return called_on_cyclic(size, 1)
+
+
+def new_cycles(size):
+    """A second call on them, with which each property begins a new cycle."""
+    return called_on_cyclic(size, 2)
+
+
+def hard_softs(size):
+    """Soft items that contradict each other, and as many hard ones."""
+    count = size // 420
+    parts = "".join(f"soft a == 8'd{k % 256};\na <= 8'd255;\n" for k in range(count))
+    text = script(f"class P;\nrand bit [7:0] a;\nconstraint c {{\n{parts}}}\nendclass\n", "p.randomize();\n")
+    return text + " " * (size - len(text))
+
+
+KINDS = [comment, name, properties, variables, statements, calls, arrays, loops, parentheses, classes, grown_classes, last_class, used_classes, made_classes, objects, blocks, modes, inherited_modes, ordered_classes, wide_classes, replaced, solves, uniques, softs, hard_softs, disables, members, searched_members, cyclic, new_cycles]
 
 
 def text_of(kind, size):
