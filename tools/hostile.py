@@ -183,6 +183,13 @@ def inherited_modes(size):
     return filled(size, front, lambda k: f"p.c{k % count}.constraint_mode(0);\n", "p.randomize();\nend\nendmodule\n")
 
 
+def turned_modes(size):
+    """The same with objects of two such classes in turn."""
+    front = filled(size // 2, "class B;\n", lambda k: f"constraint c{k} {{}}\n", "endclass\nclass P extends B;\nendclass\nclass Q extends B;\nendclass\nmodule m;\nP p = new;\nQ q = new;\ninitial begin\n")
+    count = front.count("constraint")
+    return filled(size, front, lambda k: f"{'pq'[k % 2]}.c{k % count}.constraint_mode(0);\n", "p.randomize();\nend\nendmodule\n")
+
+
 def ordered_classes(size):
     """A chain of classes, each of which adds a block that orders two properties."""
     back = script("", "p.randomize();\n", "C0 p = new;\n")
@@ -269,7 +276,7 @@ def hard_softs(size):
     return text + " " * (size - len(text))
 
 
-KINDS = [comment, name, properties, variables, statements, calls, arrays, loops, parentheses, classes, grown_classes, last_class, used_classes, made_classes, objects, blocks, modes, inherited_modes, ordered_classes, wide_classes, replaced, solves, uniques, softs, hard_softs, disables, members, searched_members, cyclic, new_cycles]
+KINDS = [comment, name, properties, variables, statements, calls, arrays, loops, parentheses, classes, grown_classes, last_class, used_classes, made_classes, objects, blocks, modes, inherited_modes, turned_modes, ordered_classes, wide_classes, replaced, solves, uniques, softs, hard_softs, disables, members, searched_members, cyclic, new_cycles]
 
 
 def text_of(kind, size):

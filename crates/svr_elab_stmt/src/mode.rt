@@ -13,6 +13,7 @@ ghost use Rattle.svr_elab_stmt.specs.Seen.{stmt_part};
 ghost use Rattle.svr_elab_stmt.specs.Fits.{ModeFits};
 ghost use Rattle.svr_elab_target.specs.Seen.{object_seen, path_seen};
 ghost use Rattle.svr_elab_target.specs.Fits.{BlocksFit};
+ghost use Rattle.svr_elab_target.specs.Kept.{IsKept};
 
 use crate::part::StmtPart;
 use indexmap::IndexSet;
@@ -22,7 +23,7 @@ use svr_elab_fault::earlier;
 use svr_elab_names::NameSpace;
 use svr_elab_part::Part;
 use svr_elab_target::{
-    Object, ObjectPath, mode_member, object_path, unknown_at, use_fault, wrong_member,
+    FlatNames, Object, ObjectPath, mode_member, object_path, unknown_at, use_fault, wrong_member,
 };
 use svr_tree::{ModeCall, ModeKind};
 use svr_typed::{NoMemory, TExpr, TStmt};
@@ -88,55 +89,64 @@ fn mode_on_none(made: &IndexSet<u32>, first: u32, on: Part) -> StmtPart
 }
 
 /// A mode of an object on a path.
-fn mode_on_object(
+fn mode_on_object<'a>(
     alloc: Global,
     path: ObjectPath<'_>,
     kind: ModeKind,
     object: Object,
     on: Part,
-    names: &NameSpace<'_, '_>,
+    names: &NameSpace<'_, 'a>,
+    flat: &mut FlatNames<'a>,
 ) -> Result<StmtPart, NoMemory>
-    requires { BlocksFit (space_of names.now) }
+    requires blocks { BlocksFit (space_of names.now) }
+    requires kept { IsKept (space_of names.now) flat.old }
     ensures value { IfOk result (λ s. stmt_part s ≡ spec.mode_of first_one (space_of names.now) (path_seen path.entry) kind (part_of on) (Some (object_seen object))) }
     ensures once { IfOk result (λ s. s.count ≡ 1) }
+    ensures kept { IsKept (space_of names.now) flat.new }
 {
-    let member = mode_member(alloc, kind, object.class, path.rest, names);
+    let member = mode_member(alloc, kind, object.class, path.rest, names, flat);
     let (on, member) = beside(on, member)?;
     Ok(mode_on(names.made, path, kind, object, member, on))
 }
 
 /// A mode of what stands on this path.
-fn mode_of(
+fn mode_of<'a>(
     alloc: Global,
     path: ObjectPath<'_>,
     kind: ModeKind,
     on: Part,
-    names: &NameSpace<'_, '_>,
+    names: &NameSpace<'_, 'a>,
+    flat: &mut FlatNames<'a>,
 ) -> Result<StmtPart, NoMemory>
-    requires { BlocksFit (space_of names.now) }
+    requires blocks { BlocksFit (space_of names.now) }
+    requires kept { IsKept (space_of names.now) flat.old }
     ensures value { IfOk result (λ s. stmt_part s ≡ spec.mode_of first_one (space_of names.now) (path_seen path.entry) kind (part_of on) (option_map object_seen path.entry.object)) }
     ensures once { IfOk result (λ s. s.count ≡ 1) }
+    ensures kept { IsKept (space_of names.now) flat.new }
 {
     match path.object {
         None => Ok(mode_on_none(names.made, path.first, on)),
-        Some(object) => mode_on_object(alloc, path, kind, object, on, names),
+        Some(object) => mode_on_object(alloc, path, kind, object, on, names, flat),
     }
 }
 
 /// `path.rand_mode(on)` or `path.constraint_mode(on)`
-pub fn mode_stmt(
+pub fn mode_stmt<'a>(
     alloc: Global,
     mode: &ModeCall,
-    names: &NameSpace<'_, '_>,
+    names: &NameSpace<'_, 'a>,
+    flat: &mut FlatNames<'a>,
 ) -> Result<StmtPart, NoMemory>
     requires vars { length names.now.vars.now.entries < 2 ^ 32 }
     requires members { MembersFit (space_of names.now) }
     requires blocks { BlocksFit (space_of names.now) }
     requires fits { ModeFits (length names.now.loops.now) (mode_tree mode.now) }
+    requires kept { IsKept (space_of names.now) flat.old }
     ensures value { IfOk result (λ s. stmt_part s ≡ spec.mode_stmt first_one (space_of names.now) (mode_tree mode.now)) }
     ensures once { IfOk result (λ s. s.count ≡ 1) }
+    ensures kept { IsKept (space_of names.now) flat.new }
 {
     let on = value(alloc, &mode.on, names)?;
     let path = object_path(&mode.path, names);
-    mode_of(alloc, path, mode.kind, on, names)
+    mode_of(alloc, path, mode.kind, on, names, flat)
 }

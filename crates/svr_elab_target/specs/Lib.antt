@@ -3,4 +3,5 @@ pub mod Blocks
 pub mod Named
 pub mod Seen
 pub mod Fits
+pub mod Kept
 pub mod Examples

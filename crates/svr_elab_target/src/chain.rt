@@ -1,11 +1,13 @@
-// The blocks of a class by name, with those that it inherits (IEEE 1800-2017, 18.5.2): in one step where it extends no class, and else in the time that its own blocks and those of the classes above it take together.
+// The blocks of a class by name, with those that it inherits (IEEE 1800-2017, 18.5.2): in one step where it extends no class or was the last one that was asked for, and else in the time that its own blocks and those of the classes above it take together.
 
-ghost use Rattle.std.specs.Prelude.{◌≡◌, ◌<◌, ◌^◌, ◌++◌, IfOk, IfSome, length, map, option_map, reverse};
+ghost use Rattle.std.specs.Prelude.{◌≡◌, ◌<◌, ◌^◌, ◌++◌, Some, true, IfOk, IfSome, length, map, option_map, reverse};
 ghost use Rattle.svr_token.specs.Names.{names_of};
 ghost use Rattle.svr_elab_names.specs.Names as names_spec;
+ghost use Rattle.svr_elab_names.specs.Names.{Space};
 ghost use Rattle.svr_elab_names.specs.Tables.{space_of, class_of, bytes_of};
 ghost use Rattle.svr_elab_target.specs.Blocks as spec;
 ghost use Rattle.svr_elab_target.specs.Fits.{BlocksFit};
+ghost use Rattle.svr_elab_target.specs.Kept.{IsKept};
 
 use crate::list::and_listed;
 use indexmap::IndexSet;
@@ -115,33 +117,90 @@ fn place_among(names: &IndexSet<&[u8]>, name: &[u8]) -> Option<u32>
     }
 }
 
+/// The names of the blocks of one class in flat order, kept from one statement to the next.
+#[derive(Drop)]
+pub struct FlatNames<'a> {
+    class: Option<u32>,
+    names: IndexSet<&'a [u8]>,
+}
+
+impl<'a> FlatNames<'a> {
+    /// Those of no class.
+    pub fn new(alloc: Global) -> FlatNames<'a>
+        ensures { (n : Space) → IsKept n result }
+    {
+        FlatNames {
+            class: None,
+            names: IndexSet::new(alloc),
+        }
+    }
+}
+
+/// Whether it is this class that names are kept of.
+fn is_of(kept: Option<u32>, class: u32) -> bool
+    ensures { result ≡ true → kept ≡ Some class }
+{
+    match kept {
+        None => false,
+        Some(other) => other == class,
+    }
+}
+
+/// Keeps the names of the blocks of a class, in the place of another one's.
+fn keep<'a>(
+    alloc: Global,
+    class: u32,
+    names: &NameSpace<'_, 'a>,
+    flat: &mut FlatNames<'a>,
+) -> Result<(), NoMemory>
+    requires { IsKept (space_of names.now) flat.old }
+    ensures kept { IsKept (space_of names.now) flat.new }
+    ensures here { IfOk result (λ u. map bytes_of flat.new.names.keys ≡ spec.class_blocks (map class_of names.now.classes.now) class) }
+{
+    if is_of(flat.class, class) {
+        return Ok(());
+    }
+    let made = flat_names(alloc, names.classes, class)?;
+    *flat = FlatNames {
+        class: Some(class),
+        names: made,
+    };
+    Ok(())
+}
+
 /// The place of the block of this name among those of the class with what it inherits.
-fn block_along(
+fn block_along<'a>(
     alloc: Global,
     class: u32,
     name: &[u8],
-    names: &NameSpace<'_, '_>,
+    names: &NameSpace<'_, 'a>,
+    flat: &mut FlatNames<'a>,
 ) -> Result<Option<u32>, NoMemory>
-    requires { BlocksFit (space_of names.now) }
-    ensures { IfOk result (λ n. n ≡ spec.block_number (map class_of names.now.classes.now) class name.now) }
+    requires blocks { BlocksFit (space_of names.now) }
+    requires kept { IsKept (space_of names.now) flat.old }
+    ensures number { IfOk result (λ n. n ≡ spec.block_number (map class_of names.now.classes.now) class name.now) }
+    ensures kept { IsKept (space_of names.now) flat.new }
 {
-    let blocks = flat_names(alloc, names.classes, class)?;
-    Ok(place_among(&blocks, name))
+    keep(alloc, class, names, flat)?;
+    Ok(place_among(&flat.names, name))
 }
 
 /// The place of the block of this class whose name stands at this token, among its blocks in flat order.
-pub(crate) fn class_block(
+pub(crate) fn class_block<'a>(
     alloc: Global,
     class: u32,
     name: u32,
-    names: &NameSpace<'_, '_>,
+    names: &NameSpace<'_, 'a>,
+    flat: &mut FlatNames<'a>,
 ) -> Result<Option<u32>, NoMemory>
-    requires { BlocksFit (space_of names.now) }
-    ensures { IfOk result (λ n. n ≡ spec.block_number (map class_of names.now.classes.now) class (names_of names.now.names name)) }
+    requires blocks { BlocksFit (space_of names.now) }
+    requires kept { IsKept (space_of names.now) flat.old }
+    ensures number { IfOk result (λ n. n ≡ spec.block_number (map class_of names.now.classes.now) class (names_of names.now.names name)) }
+    ensures kept { IsKept (space_of names.now) flat.new }
 {
     let spelled = names.names.name(name);
     match own_alone(names.classes, class) {
-        None => block_along(alloc, class, spelled, names),
+        None => block_along(alloc, class, spelled, names, flat),
         Some(own) => Ok(place_among(own, spelled)),
     }
 }

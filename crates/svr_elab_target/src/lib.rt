@@ -12,6 +12,7 @@ mod property;
 mod space;
 mod target;
 
+pub use chain::FlatNames;
 pub use list::{call_list, list_fault};
 pub use member::{mode_member, wrong_member, wrong_rest};
 pub use path::{Object, ObjectPath, object_path, unknown_at, use_fault};

@@ -6,8 +6,9 @@ ghost use Rattle.svr_elab_names.specs.Names as names_spec;
 ghost use Rattle.svr_elab_names.specs.Tables.{space_of, class_of};
 ghost use Rattle.svr_elab_target.specs.Named as spec;
 ghost use Rattle.svr_elab_target.specs.Fits.{BlocksFit};
+ghost use Rattle.svr_elab_target.specs.Kept.{IsKept};
 
-use crate::chain::class_block;
+use crate::chain::{FlatNames, class_block};
 use crate::property::class_property;
 use std::alloc::Global;
 use svr_elab_names::NameSpace;
@@ -24,36 +25,42 @@ fn property_number(class: u32, name: u32, names: &NameSpace<'_, '_>) -> Option<u
 }
 
 /// The property, or the block, of this class whose name stands at this token.
-fn member_number(
+fn member_number<'a>(
     alloc: Global,
     kind: ModeKind,
     class: u32,
     name: u32,
-    names: &NameSpace<'_, '_>,
+    names: &NameSpace<'_, 'a>,
+    flat: &mut FlatNames<'a>,
 ) -> Result<Option<u32>, NoMemory>
-    requires { BlocksFit (space_of names.now) }
-    ensures { IfOk result (λ n. n ≡ spec.member_number kind (space_of names.now) class (names_of names.now.names name)) }
+    requires blocks { BlocksFit (space_of names.now) }
+    requires kept { IsKept (space_of names.now) flat.old }
+    ensures number { IfOk result (λ n. n ≡ spec.member_number kind (space_of names.now) class (names_of names.now.names name)) }
+    ensures kept { IsKept (space_of names.now) flat.new }
 {
     match kind {
         ModeKind::Rand => Ok(property_number(class, name, names)),
-        ModeKind::Constraint => class_block(alloc, class, name, names),
+        ModeKind::Constraint => class_block(alloc, class, name, names, flat),
     }
 }
 
 /// The property, or the block, that stands behind the object variable.
-pub fn mode_member(
+pub fn mode_member<'a>(
     alloc: Global,
     kind: ModeKind,
     class: u32,
     rest: &[u32],
-    names: &NameSpace<'_, '_>,
+    names: &NameSpace<'_, 'a>,
+    flat: &mut FlatNames<'a>,
 ) -> Result<Option<u32>, NoMemory>
-    requires { BlocksFit (space_of names.now) }
-    ensures { IfOk result (λ n. n ≡ spec.mode_member kind (space_of names.now) class rest.now) }
+    requires blocks { BlocksFit (space_of names.now) }
+    requires kept { IsKept (space_of names.now) flat.old }
+    ensures number { IfOk result (λ n. n ≡ spec.mode_member kind (space_of names.now) class rest.now) }
+    ensures kept { IsKept (space_of names.now) flat.new }
 {
     match rest.first() {
         None => Ok(None),
-        Some(name) => member_number(alloc, kind, class, *name, names),
+        Some(name) => member_number(alloc, kind, class, *name, names, flat),
     }
 }
 

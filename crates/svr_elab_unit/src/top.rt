@@ -22,6 +22,7 @@ use svr_elab_fault::{earlier, when};
 use svr_elab_list::{and_next, stmt};
 use svr_elab_names::{NameSpace, VarStand};
 use svr_elab_stmt::{StmtPart, StmtsPart, no_stmts};
+use svr_elab_target::FlatNames;
 use svr_limits::STATEMENT_LIMIT;
 use svr_refusal::Refusal;
 use svr_tree::{Stmt, UnitDecl};
@@ -94,9 +95,10 @@ fn tops(
     requires count { start.count ≤ STATEMENT_LIMIT + 1 }
     ensures { IfOk result (λ ss. stmts_part made.new.keys ss ≡ spec.tops first_one (space_of names.now) (stmts_part made.old.keys start) (map stmt_tree list.now)) }
 {
+    let mut flat = FlatNames::new(alloc);
     let mut part = start;
     for each in list {
-        let next = stmt(alloc, each, names, made);
+        let next = stmt(alloc, each, names, made, &mut flat);
         let (before, next) = beside(part, next)?;
         part = and_top(made, before, stmt_start(each), next)?;
     }

@@ -30,6 +30,7 @@ pub stmts-loop-each-init : goal.stmts-loop-each-init
 stmts-loop-each-init t c = record {
   fits = c.requires.fits;
   most = c.no_stmts-part.ensures.most;
+  still = c.requires.kept;
   before = all_kept c.args.made.now.keys;
   known = start_is (space_of c.args.names.now) _ c.args.made.now.keys (stmt_trees c.args.list.now) (c.no_stmts-part.ensures.value c.args.made.now.keys);
 }
@@ -49,6 +50,7 @@ stmts-loop-each-preserved t c =
     record {
       fits = (subst Fits rest c.loop-each.invariant.fits).1;
       most = c.in_ok-part.ensures.most;
+      still = c.in_ok-next.ensures.kept;
       before = before_is c.args.made.now.keys old _ _ c.in_ok-next.next.makes c.in_ok-next.ensures.made c.in_ok-part.ensures.keys c.loop-each.invariant.before;
       known = step_is n old _ _ p c.in_ok-part.part c.in_ok-next.next (stmt_tree s) (stmt_trees (drop (i + 1) list)) whole
           c.in_ok-next.ensures.made c.in_ok-part.ensures.value c.in_ok-next.ensures.value (subst Known rest c.loop-each.invariant.known);

@@ -7,12 +7,14 @@ use Rattle.svr_elab_names.specs.Tables.{space_of}
 use Rattle.svr_elab_stmt.specs.Stmts as spec
 use Rattle.svr_elab_stmt.specs.Seen.{stmts_part}
 use Rattle.svr_elab_stmt.specs.Fits.{StmtsFit}
+use Rattle.svr_elab_target.specs.Kept.{IsKept}
 use Rattle.svr_elab_list.proofs.walk.+stmt.Given as goal
 
 abbrev pub invariant-stmts-loop-each : goal.invariant-stmts-loop-each
 invariant-stmts-loop-each l = record {
   fits : StmtsFit (length l.names.loops.now) (stmt_trees (drop l.each-index l.list));
   most : l.part.count ≤ STATEMENT_LIMIT + 1;
+  still : IsKept (space_of l.names) l.flat;
   before : take (length l.initial.made.keys) l.made.keys ≡ l.initial.made.keys;
   known : spec.stmts first_one (space_of l.names) (stmts_part l.made.keys l.part) (stmt_trees (drop l.each-index l.list))
       ≡ spec.stmts first_one (space_of l.names) (spec.no_stmts first_one l.initial.made.keys) (stmt_trees l.list);

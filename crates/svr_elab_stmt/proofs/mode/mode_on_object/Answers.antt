@@ -8,4 +8,4 @@ use Rattle.svr_elab_stmt.proofs.mode.mode_on_object.Goals as goal
 pub returns-clause-value : goal.returns-clause-value
 returns-clause-value c =
     mode_on_is (space_of c.args.names.now) (path_seen c.args.path) c.args.kind (object_seen c.args.object) _ (part_of c.args.on) (stmt_part c.mode_on.result)
-    (rw c.in_ok-on.ensures.held at c.mode_on.ensures.value) (rw c.in_ok-on.ensures.made at c.mode_member-member.ensures)
+    (rw c.in_ok-on.ensures.held at c.mode_on.ensures.value) (rw c.in_ok-on.ensures.made at c.mode_member-member.ensures.number)

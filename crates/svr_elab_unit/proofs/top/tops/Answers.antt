@@ -1,4 +1,4 @@
-use Rattle.std.proofs.Common.{◌≡◌, ◌+◌, List, map, drop, length, subst}
+use Rattle.std.proofs.Common.{◌≡◌, ◌+◌, List, map, drop, length, subst, refl}
 use Rattle.svr_tree.specs.StmtTree.{StmtTree, stmt_tree}
 use Rattle.svr_elab_fault.specs.Refusals.{first_one}
 use Rattle.svr_elab_names.specs.Tables.{space_of}
@@ -14,6 +14,9 @@ and_top-requires-clause-before c = rw c.in_ok-before.ensures.held c.loop-each.in
 
 pub and_top-requires-clause-next : goal.and_top-requires-clause-next
 and_top-requires-clause-next c = rw c.in_ok-before.ensures.made at c.stmt-next.ensures.most
+
+pub loop-each-init : goal.loop-each-init
+loop-each-init c = record { fits = c.requires.fits; most = c.requires.count; still = c.new-flat.ensures (space_of c.args.names.now); same = refl }
 
 pub loop-each-preserved : goal.loop-each-preserved
 loop-each-preserved c =
@@ -31,6 +34,7 @@ loop-each-preserved c =
     record {
       fits = (subst Fits rest c.loop-each.invariant.fits).1;
       most = c.in_ok-part.ensures.most;
+      still = c.stmt-next.ensures.kept;
       same = tops_more n old _ _ p c.in_ok-part.part _ (stmt_part x.next) (stmt_tree t) (map stmt_tree (drop (i + 1) list)) whole
           (rw x.ensures.made at c.stmt-next.ensures.made) (rw x.ensures.held at c.in_ok-part.ensures.value) c.stmt_start.ensures (rw x.ensures.made at c.stmt-next.ensures.value) (subst Known rest c.loop-each.invariant.same);
     }
