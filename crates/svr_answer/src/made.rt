@@ -3,6 +3,7 @@ ghost use Rattle.std.specs.Prelude.{◌≤◌};
 ghost use Rattle.svr_load.specs.Script.{load_text};
 ghost use Rattle.svr_typed.specs.StmtTerm.{design_term};
 ghost use Rattle.svr_design.specs.Lawful.{IsLawful};
+ghost use Rattle.svr_words.specs.declared.limits.TheConstants.{CLASS_LIMIT};
 ghost use Rattle.svr_words.specs.Taken.{AreInRange};
 ghost use Rattle.svr_refused.specs.Texts.{HasDesign};
 ghost use Rattle.svr_answer.specs.Parts.{LoadAnswered, Told};
@@ -52,7 +53,7 @@ fn load_design<K: Sink, J: Sink>(
 
 /// The run of the script of a load, whose calls are counted and not printed.
 pub fn load<K: Sink, J: Sink>(alloc: Global, asked: Load, out: &mut K, journal: &mut J) -> Status
-    requires small { asked.count ≤ 2000 }
+    requires small { asked.count ≤ CLASS_LIMIT }
     requires ranges { AreInRange asked.opts }
     ensures { LoadAnswered asked.count asked.opts result
         (record { out = K.written out.old; journal = J.written journal.old; out_faults = K.faults out.old; journal_faults = J.faults journal.old })

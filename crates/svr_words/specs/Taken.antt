@@ -8,6 +8,7 @@ use Rattle.clap.specs.declared.parser.matches.Found.{Found}
 use Rattle.svr_limits.specs.declared.limit.TheConstants.{BUDGET_LIMIT, ELEMENT_LIMIT}
 use Rattle.svr_phase.specs.declared.options.Options.{Options}
 use Rattle.svr_words.specs.Words.{IsCommand, IsLoad, IsCheck, IsSeq, IsCover}
+use Rattle.svr_words.specs.declared.limits.TheConstants.{CLASS_LIMIT, LINE_LIMIT}
 use Rattle.svr_words.specs.declared.request.Request.{Request}
 use Rattle.svr_words.specs.declared.request.Request.TheVariants as request
 
@@ -37,18 +38,18 @@ pub record RunIsTaken (f : Found) : Type 0 where
 
 -- what was taken for a load
 pub record LoadIsTaken (f : Found) : Type 0 where
-  pub count : IsNumber f (codes "N") 1 2000
+  pub count : IsNumber f (codes "N") 1 CLASS_LIMIT
   pub options : AreTaken f
 
 -- what was taken for lines
 pub record SeqIsTaken (f : Found) : Type 0 where
   pub seed : IsNumber f (codes "seed") 0 18446744073709551615
-  pub count : IsNumber f (codes "count") 1 100000
+  pub count : IsNumber f (codes "count") 1 LINE_LIMIT
 
 -- the words ask for this, and its numbers are in their ranges
 abbrev pub Asks : List (List ℕ) → Request → Type 0
 Asks words (request.Run run) = IsCommand words run × AreInRange run.opts
-Asks words (request.Load load) = IsLoad words load.count load.opts × (load.count ≤ 2000) × AreInRange load.opts
+Asks words (request.Load load) = IsLoad words load.count load.opts × (load.count ≤ CLASS_LIMIT) × AreInRange load.opts
 Asks words request.Check = IsCheck words
 Asks words (request.Seq lines) = IsSeq words lines.seed lines.count
 Asks words (request.Cover opts) = IsCover words opts × AreInRange opts

@@ -10,6 +10,7 @@ use Rattle.clap.specs.declared.builder.value_parser.ValueParser.{ValueParser}
 use Rattle.clap.specs.declared.builder.value_parser.ValueParser.TheVariants.{Unsigned, Bool as Truth}
 use Rattle.svr_limits.specs.declared.limit.TheConstants.{BUDGET_LIMIT, ELEMENT_LIMIT}
 use Rattle.svr_phase.specs.declared.options.Options.{Options}
+use Rattle.svr_words.specs.declared.limits.TheConstants.{CLASS_LIMIT, LINE_LIMIT}
 use Rattle.svr_words.specs.declared.request.Run.{Run}
 
 -- an option that takes one value
@@ -44,7 +45,7 @@ abbrev pub seq_command : App
 seq_command =
     with_rule (with_rule (plain_command (codes "seq"))
     (option (codes "seed") (Unsigned 0 18446744073709551615)))
-    (option (codes "count") (Unsigned 1 100000))
+    (option (codes "count") (Unsigned 1 LINE_LIMIT))
 
 -- `cover` has the options of a run, and none of its flags
 abbrev pub cover_command : App
@@ -52,7 +53,7 @@ cover_command = with_options (codes "cover")
 
 -- how many classes the script of a load has
 abbrev pub class_count : Rule
-class_count = record (new_rule (codes "N")) { action = Some Set; parser = Some (Unsigned 1 2000); required = true }
+class_count = record (new_rule (codes "N")) { action = Some Set; parser = Some (Unsigned 1 CLASS_LIMIT); required = true }
 
 abbrev pub load_command : App
 load_command = with_rule (with_options (codes "load")) class_count

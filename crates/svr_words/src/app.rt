@@ -4,6 +4,7 @@ ghost use Rattle.clap.specs.Walk.{rule_of};
 ghost use Rattle.clap.specs.Simple.{app_of};
 ghost use Rattle.svr_words.specs.Words as spec;
 
+use crate::limits::{CLASS_LIMIT, LINE_LIMIT};
 use clap::builder::ValueParser;
 use clap::{Arg, ArgAction, Command};
 use std::alloc::{AllocError, Global};
@@ -75,7 +76,7 @@ fn class_count<'a>(alloc: Global) -> Arg<'a>
 {
     Arg::new(alloc, "N")
         .action(ArgAction::Set)
-        .value_parser(ValueParser::unsigned(1, 2000))
+        .value_parser(ValueParser::unsigned(1, CLASS_LIMIT))
         .required(true)
 }
 
@@ -100,5 +101,5 @@ pub fn seq_command<'a>(alloc: Global) -> Result<Command<'a>, AllocError>
 {
     plain(alloc, "seq")
         .arg(option(alloc, "seed", ValueParser::unsigned(0, u64::MAX)))?
-        .arg(option(alloc, "count", ValueParser::unsigned(1, 100_000)))
+        .arg(option(alloc, "count", ValueParser::unsigned(1, LINE_LIMIT)))
 }

@@ -1,6 +1,7 @@
 // What words ask for.
 ghost use Rattle.std.specs.Prelude.{◌≡◌, ◌≤◌, ℕ, List, Some, true, false, codes, map, slice_get, IfOk, IfSome, IfNone, string_bytes};
 ghost use Rattle.svr_phase.specs.declared.options.Options.{Options};
+ghost use Rattle.svr_words.specs.declared.limits.TheConstants.{CLASS_LIMIT};
 ghost use Rattle.svr_words.specs.declared.request.Run.{Run};
 ghost use Rattle.svr_words.specs.Words.{IsCommand, IsLoad, IsCheck, IsSeq, IsCover, AskNothing};
 ghost use Rattle.svr_words.specs.Taken.{AreInRange, Asks};
@@ -34,7 +35,7 @@ fn taken(alloc: Global, words: &[String]) -> Result<Option<Run>, AllocError>
 /// The load in words of which the first names the command, as `clap` takes them.
 fn load_taken(alloc: Global, words: &[String]) -> Result<Option<Load>, AllocError>
     requires { slice_get (map (λ w. string_bytes w) words.now) 0 ≡ Some (codes "load") }
-    ensures some { IfOk result (λ r. IfSome r (λ load. IsLoad (map (λ w. string_bytes w) words.now) load.count load.opts × (load.count ≤ 2000) × AreInRange load.opts)) }
+    ensures some { IfOk result (λ r. IfSome r (λ load. IsLoad (map (λ w. string_bytes w) words.now) load.count load.opts × (load.count ≤ CLASS_LIMIT) × AreInRange load.opts)) }
     ensures none { IfOk result (λ r. IfNone r ((count : ℕ) (opts : Options) → IsLoad (map (λ w. string_bytes w) words.now) count opts → ⊥)) }
 {
     let command = load_command(alloc)?;

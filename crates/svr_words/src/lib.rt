@@ -6,9 +6,11 @@
 mod app;
 mod ask;
 mod help;
+mod limits;
 mod request;
 mod take;
 
 pub use ask::command;
 pub use help::USAGE;
+pub use limits::{CLASS_LIMIT, LINE_LIMIT};
 pub use request::{Lines, Load, Request, Run};

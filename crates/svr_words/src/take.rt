@@ -2,6 +2,7 @@
 ghost use Rattle.std.specs.Prelude.{◌≡◌, ◌≤◌, ◌<◌, ◌^◌, ℕ, codes};
 ghost use Rattle.clap.specs.Matches.{found_of};
 ghost use Rattle.clap.specs.Walk.{one_of, rows_of};
+ghost use Rattle.svr_words.specs.declared.limits.TheConstants.{CLASS_LIMIT};
 ghost use Rattle.svr_words.specs.Words.{number_or, is_set, options_of, run_of};
 ghost use Rattle.svr_words.specs.Taken.{IsNumber, IsTruth, AreTaken, AreInRange, RunIsTaken, LoadIsTaken, SeqIsTaken};
 
@@ -63,7 +64,7 @@ pub fn load_of(matches: &ArgMatches<'_>) -> Load
     requires { LoadIsTaken (found_of matches.now) }
     ensures count { result.count ≡ number_or 0 (one_of (codes "N") (rows_of (found_of matches.now))) }
     ensures options { result.opts ≡ options_of (rows_of (found_of matches.now)) }
-    ensures small { result.count ≤ 2000 }
+    ensures small { result.count ≤ CLASS_LIMIT }
     ensures ranges { AreInRange result.opts }
 {
     let count = number(matches, "N", 0);
