@@ -37,6 +37,7 @@ use Rattle.svr_question.proofs.Roots.{bits_joined, positives_long, bits_first, b
 use Rattle.svr_cyclic.specs.declared.ask.Asking.{Asking}
 use Rattle.svr_cyclic.specs.Questions.{hard_items, EncodesCyclic, CanBe, bits_of_phase, HasClausesOf, CanAsk, CanBeFixed, tried_of, IsTried}
 use Rattle.svr_cyclic.proofs.Rows.{lits_at, assumed_fit}
+use Rattle.svr_cyclic.proofs.Parts.{swapped, part_within, part_apart, answer_swapped}
 use Rattle.svr_cyclic.proofs.Spelled.{front_read}
 
 -- ---- roots
@@ -114,10 +115,10 @@ module _ (f : FrameTerm) (sound : IsSound f) (layout : Encoded) (s : SolverView)
   abbrev lits : List Lit
   lits = fixed_lits layout fixed ++ hard_roots layout (hard_items f)
 
-  pub asked : (ls : List Lit) → ls ≡ fixed_lits layout fixed ++ layout.roots.items → ls ≡ lits
+  asked : (ls : List Lit) → ls ≡ fixed_lits layout fixed ++ layout.roots.items → ls ≡ lits
   asked ls is = is ∙ ap (λ (xs : List Lit). fixed_lits layout fixed ++ xs) (sym (all_roots f encoding has.encodes))
 
-  pub asked_fit : (ls : List Lit) → ls ≡ fixed_lits layout fixed ++ layout.roots.items → AreWithin s.vars ls × (is_tautology ls ≡ false)
+  asked_fit : (ls : List Lit) → ls ≡ fixed_lits layout fixed ++ layout.roots.items → AreWithin s.vars ls × (is_tautology ls ≡ false)
   asked_fit ls is =
       let two = assumed_fit f encoding has.encodes fixed can ls is in
       (subst (λ (n : ℕ). AreWithin n ls) (sym has.vars) two.0, two.1)
@@ -131,12 +132,29 @@ module _ (f : FrameTerm) (sound : IsSound f) (layout : Encoded) (s : SolverView)
     many = subst (λ (b : Option ℕ). AreMany b budget) has.bits h.3;
   }
 
-  pub tried : (cause : ProofReason) (ls : List Lit) → ls ≡ fixed_lits layout fixed ++ layout.roots.items → (answer : Answer) → IsAnswer s ls budget answer
+  tried : (cause : ProofReason) (ls : List Lit) → ls ≡ fixed_lits layout fixed ++ layout.roots.items → (answer : Answer) → IsAnswer s ls budget answer
       → IsTried (record { frame = f; layout = layout; clauses = s.clauses; budget = budget }) fixed cause (tried_of answer ls cause)
   tried cause ls is answer h =
       let same = asked ls is in
       subst (λ (xs : List Lit). IsTried (record { frame = f; layout = layout; clauses = s.clauses; budget = budget }) fixed cause (tried_of answer xs cause)) (sym same)
       (tried_with cause answer (subst (λ (xs : List Lit). IsAnswer s xs budget answer) same h))
+
+  -- ---- with the roots in front
+
+  pub front_fit : (ls : List Lit) → ls ≡ layout.roots.items ++ fixed_lits layout fixed → AreWithin s.vars ls × (is_tautology ls ≡ false)
+  front_fit ls is =
+      let two = asked_fit (fixed_lits layout fixed ++ layout.roots.items) refl in
+      let p = swapped layout.roots.items (fixed_lits layout fixed) in
+      subst (λ (xs : List Lit). AreWithin s.vars xs × (is_tautology xs ≡ false)) (sym is) (
+        part_within s.vars (layout.roots.items ++ fixed_lits layout fixed) (fixed_lits layout fixed ++ layout.roots.items) p two.0,
+        part_apart (layout.roots.items ++ fixed_lits layout fixed) (fixed_lits layout fixed ++ layout.roots.items) p two.1,
+      )
+
+  pub tried_front : (cause : ProofReason) (ls : List Lit) → ls ≡ layout.roots.items ++ fixed_lits layout fixed → (answer : Answer) → IsAnswer s ls budget answer
+      → IsTried (record { frame = f; layout = layout; clauses = s.clauses; budget = budget }) fixed cause (tried_of answer (fixed_lits layout fixed ++ layout.roots.items) cause)
+  tried_front cause ls is answer h =
+      tried cause (fixed_lits layout fixed ++ layout.roots.items) refl answer
+      (answer_swapped s layout.roots.items (fixed_lits layout fixed) budget answer (subst (λ (xs : List Lit). IsAnswer s xs budget answer) is h))
 
 -- ---- a solver that has made more steps
 

@@ -1,5 +1,6 @@
 pub mod Rows
 pub mod Spelled
+pub mod Parts
 pub mod Answered
 pub mod Lists
 pub mod Tries

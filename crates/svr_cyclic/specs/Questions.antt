@@ -72,11 +72,17 @@ pub record IsNext (f : FrameTerm) (chosen : List (ℕ × ℕ)) (prop : ℕ) : Ty
 abbrev pub IsRowOf : Encoded → ℕ → List Lit → Type 0
 IsRowOf e prop row = (v : ℕ) → fixed_lits e ((prop, v) ∷ []) ≡ spelling row v
 
--- a value of the next property, with the literals of the chosen values and the bits of the property
+-- a value of the next property, with the bits of the property
 pub record IsSought (a : Asking) (s : Sought) : Type 0 where
   pub next : IsNext (frame_term a.frame.now) s.chosen.now s.prop
-  pub lits : s.literals.now ≡ fixed_lits a.layout.now s.chosen.now
   pub row : IsRowOf a.layout.now s.prop s.row.now
+
+-- the literals in front of each question: those of the hard items, then those of the chosen values
+abbrev pub front_of : Encoded → List (ℕ × ℕ) → List Lit
+front_of e chosen = e.roots.items ++ fixed_lits e chosen
+
+abbrev pub AreInFront : Asking → List (ℕ × ℕ) → List Lit → Type 0
+AreInFront a chosen ls = ls ≡ front_of a.layout.now chosen
 
 -- ---- what is found
 

@@ -1,19 +1,20 @@
-// One question: whether a value of a property fits behind the chosen ones.
+// One question: whether some literals fit behind those of the hard items and of the chosen values.
 
-ghost use Rattle.std.specs.Prelude.{◌≡◌, ◌<◌, ◌^◌, [], ◌∷◌, ◌++◌, IfOk};
-ghost use Rattle.svr_frame.specs.Frame.{frame_term, width_of};
-ghost use Rattle.svr_phase.specs.Proof.{fixed_lits};
-ghost use Rattle.svr_cyclic.specs.Questions.{CanAsk, IsRowOf, IsSought, IsTried, over, tried_of};
+ghost use Rattle.std.specs.Prelude.{◌≡◌, ◌≤◌, ◌++◌, false, IfOk, OnOk};
+ghost use Rattle.svr_chain.specs.Clauses.{AreWithin, is_tautology};
+ghost use Rattle.svr_phase.specs.Proof.{fixed_lits, spelling};
+ghost use Rattle.svr_query.specs.Answer.{IsAnswer};
+ghost use Rattle.svr_cyclic.specs.Questions.{CanAsk};
 
 use crate::memory::NoMemory;
 use crate::row::spelled;
-use sqlite_items::Items;
 use std::alloc::Global;
 use svr_chain::{Lit, Refutation};
 use svr_encoded::Encoded;
 use svr_frame::Frame;
-use svr_phase::{Proof, ProofReason};
+use svr_phase::Proof;
 use svr_query::{Answer, Solver};
+use svr_question::fixed_literals;
 
 /// What all questions of the phase are asked with: the frame, an encoding apart from its clauses, which the solver has, the values that the search tries first, and the budget in steps.
 #[derive(Clone, Copy)]
@@ -24,12 +25,18 @@ pub(crate) struct Asking<'a> {
     pub budget: u64,
 }
 
-/// What is looked for: a value of a property behind the chosen ones, with the literals of these, and the bits of the property.
+/// The solver, and the literals in front of each question: those of the hard items, then those of the chosen values. They stay decided from one question to the next, since what changes stands behind them.
+#[derive(Drop)]
+pub(crate) struct Asker {
+    pub solver: Solver,
+    pub front: Vec<Lit>,
+}
+
+/// What is looked for: a value of a property behind the chosen ones, and the bits of the property.
 #[derive(Clone, Copy)]
 pub(crate) struct Sought<'a> {
     pub prop: u32,
     pub chosen: &'a [(u32, u64)],
-    pub literals: &'a [Lit],
     pub row: &'a [Lit],
 }
 
@@ -44,60 +51,56 @@ pub(crate) enum Tried {
     Spent { log: Refutation, first: u64 },
 }
 
-/// The literals that a question assumes: those of the chosen values, of the value that is tried, and of the hard items.
+/// Puts the literals of a chosen value behind those in front.
+pub(crate) fn put_in_front(
+    alloc: Global,
+    front: &mut Vec<Lit>,
+    row: &[Lit],
+    value: u64,
+) -> Result<(), NoMemory>
+    ensures { OnOk result (front.new.items ≡ front.old.items ++ spelling row.now value) }
+{
+    let literals = spelled(alloc, row, value)?;
+    front.extend_from_slice(literals.as_slice())?;
+    Ok(())
+}
+
+/// Asks whether some assignment has the literals in front and these behind them, which are cut off again.
+pub(crate) fn ask_with(
+    asking: &Asking<'_>,
+    asker: &mut Asker,
+    own: &[Lit],
+    budget: u64,
+) -> Result<Answer, NoMemory>
+    requires can { CanAsk asking.now asker.old.solver }
+    requires within { AreWithin asker.old.solver.vars (asker.old.front.items ++ own.now) }
+    requires apart { is_tautology (asker.old.front.items ++ own.now) ≡ false }
+    requires budget { 1 ≤ budget }
+    ensures can { CanAsk asking.now asker.new.solver }
+    ensures same { asker.new.solver.clauses ≡ asker.old.solver.clauses }
+    ensures front { OnOk result (asker.new.front.items ≡ asker.old.front.items) }
+    ensures answer { IfOk result (IsAnswer asker.old.solver (asker.old.front.items ++ own.now) budget) }
+{
+    let stands = asker.front.len();
+    asker.front.extend_from_slice(own)?;
+    let lits = asker.front.as_slice();
+    let answer = asker.solver.ask(lits, asking.prefer, budget)?;
+    asker.front.truncate(stands);
+    Ok(answer)
+}
+
+/// The literals that a proof assumes: those of the chosen values, of the value that is refused, and of the hard items.
 pub(crate) fn assumed(
     alloc: Global,
     layout: &Encoded,
     sought: &Sought<'_>,
-    value: u64,
+    own: &[Lit],
 ) -> Result<Vec<Lit>, NoMemory>
-    requires lits { sought.now.literals.now ≡ fixed_lits layout.now sought.now.chosen.now }
-    requires row { IsRowOf layout.now sought.now.prop sought.now.row.now }
-    ensures { IfOk result (λ ls. ls.items ≡ fixed_lits layout.now (sought.now.chosen.now ++ (sought.now.prop, value) ∷ []) ++ layout.now.roots.items) }
+    ensures { IfOk result (λ ls. ls.items ≡ fixed_lits layout.now sought.now.chosen.now ++ own.now ++ layout.now.roots.items) }
 {
-    let own = spelled(alloc, sought.row, value)?;
-    let own_lits = own.as_slice();
     let roots = layout.roots.as_slice();
-    let mut all = Vec::from_slice(alloc, sought.literals)?;
-    all.extend_from_slice(own_lits)?;
+    let mut all = fixed_literals(alloc, layout, sought.chosen)?;
+    all.extend_from_slice(own)?;
     all.extend_from_slice(roots)?;
     Ok(all)
-}
-
-/// What an answer of the search says, where these literals were assumed.
-fn conclude(answer: Answer, assume: Vec<Lit>, reason: ProofReason) -> Tried
-    ensures { result ≡ tried_of answer assume.items reason }
-{
-    match answer {
-        Answer::Satisfied(_) => Tried::Fits,
-        Answer::Refuted(refutation) => Tried::Refused(Proof {
-            encoding: 0,
-            assume: Items::from_vec(assume),
-            refutation,
-            reason,
-        }),
-        Answer::Spent { log, first } => Tried::Spent { log, first },
-    }
-}
-
-/// Asks whether an assignment has the chosen values and this one, and meets the hard items.
-pub(crate) fn try_value(
-    alloc: Global,
-    asking: &Asking<'_>,
-    solver: &mut Solver,
-    sought: &Sought<'_>,
-    value: u64,
-    reason: ProofReason,
-) -> Result<Tried, NoMemory>
-    requires can { CanAsk asking.now solver.old }
-    requires sought { IsSought asking.now sought.now }
-    requires below { value < 2 ^ width_of (frame_term asking.now.frame.now) sought.now.prop }
-    ensures can { CanAsk asking.now solver.new }
-    ensures same { solver.new.clauses ≡ solver.old.clauses }
-    ensures tried { IfOk result (IsTried (over asking.now solver.old.clauses) (sought.now.chosen.now ++ (sought.now.prop, value) ∷ []) reason) }
-{
-    let assume = assumed(alloc, asking.layout, sought, value)?;
-    let lits = assume.as_slice();
-    let answer = solver.ask(lits, asking.prefer, asking.budget)?;
-    Ok(conclude(answer, assume, reason))
 }

@@ -12,6 +12,7 @@ ghost use Rattle.svr_call.specs.Call.{call_of};
 ghost use Rattle.svr_cyclic.specs.Phase.{call_at};
 ghost use Rattle.svr_cyclic.specs.Ends.{end_of, CyclicEnds, FitsIfChosen};
 
+use crate::ask::Asker;
 use crate::memory::NoMemory;
 use crate::phase::{Calling, Progress, Reached, choose_all};
 use crate::solving::{Parted, encoded, taken_apart, whole};
@@ -147,11 +148,15 @@ fn chosen_in_turn(alloc: Global, call: &Calling<'_>, props: &[u32]) -> Result<Cy
     let parts = taken_apart(alloc, call.frame, encoding)?;
     let Parted {
         layout,
-        mut solver,
+        mut asker,
         prefer,
     } = parts;
     let wishes = prefer.as_slice();
-    let reached = choose_all(alloc, call, &layout, wishes, &mut solver, props)?;
+    let reached = choose_all(alloc, call, &layout, wishes, &mut asker, props)?;
+    let Asker {
+        solver,
+        front: _front,
+    } = asker;
     let given = whole(call.frame, layout, solver);
     concluded(alloc, given, reached)
 }

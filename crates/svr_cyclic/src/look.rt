@@ -1,24 +1,25 @@
 // The first of some values that fits.
 
-ghost use Rattle.std.specs.Prelude.{◌≡◌, ◌<◌, ◌^◌, [], ◌∷◌, ◌++◌, IfOk, IfSome};
+ghost use Rattle.std.specs.Prelude.{◌≡◌, ◌<◌, ◌^◌, ℕ, [], ◌∷◌, ◌++◌, IfOk, IfSome, OnOk};
 ghost use Rattle.std.specs.List.{All};
 ghost use Rattle.svr_query.specs.declared.solver.Answer.TheVariants as answer;
+ghost use Rattle.svr_phase.specs.declared.proof.ProofReason.{ProofReason};
 ghost use Rattle.svr_phase.specs.Proof.{fixed_lits};
 ghost use Rattle.svr_frame.specs.Frame.{frame_term, width_of};
-ghost use Rattle.svr_cyclic.specs.Questions.{CanAsk, IsRowOf, IsSought, IsTried, over, tried_of};
+ghost use Rattle.svr_cyclic.specs.Questions.{AreInFront, CanAsk, IsSought, IsTried, over, tried_of};
 ghost use Rattle.svr_cyclic.specs.Denials.{AreDenied};
 ghost use Rattle.svr_cyclic.specs.Values.{IsFit, IsLooked, reason_of};
 
-use crate::ask::{Asking, Sought, Tried, assumed, try_value};
+use crate::ask::{Asker, Asking, Sought, Tried, ask_with, assumed};
 use crate::memory::NoMemory;
 use crate::row::spelled;
 use crate::single::{Known, ask_each, copied, denied_among, is_denied};
 use sqlite_items::Items;
 use std::alloc::Global;
-use svr_chain::Refutation;
+use svr_chain::{Lit, Refutation};
 use svr_encoded::Encoded;
 use svr_phase::{Proof, ProofReason};
-use svr_query::Solver;
+use svr_query::Answer;
 
 /// Which values are tried: those that are unused, or the whole domain for a new cycle.
 #[derive(Clone, Copy)]
@@ -59,21 +60,18 @@ fn reason(among: Among, prop: u32, value: u64) -> ProofReason
     }
 }
 
-/// Refuses a value by the refutation of one of its literals.
+/// Refuses a value by a refutation of its literals behind those in front.
 fn refused(
     alloc: Global,
     layout: &Encoded,
     sought: &Sought<'_>,
-    value: u64,
-    refutation: &Refutation,
+    own: &[Lit],
+    refutation: Refutation,
     reason: ProofReason,
 ) -> Result<Tried, NoMemory>
-    requires lits { sought.now.literals.now ≡ fixed_lits layout.now sought.now.chosen.now }
-    requires row { IsRowOf layout.now sought.now.prop sought.now.row.now }
-    ensures { IfOk result (λ t. t ≡ tried_of (answer.Refuted refutation.now) (fixed_lits layout.now (sought.now.chosen.now ++ (sought.now.prop, value) ∷ []) ++ layout.now.roots.items) reason) }
+    ensures { IfOk result (λ t. t ≡ tried_of (answer.Refuted refutation) (fixed_lits layout.now sought.now.chosen.now ++ own.now ++ layout.now.roots.items) reason) }
 {
-    let assume = assumed(alloc, layout, sought, value)?;
-    let refutation = copied(alloc, refutation)?;
+    let assume = assumed(alloc, layout, sought, own)?;
     Ok(Tried::Refused(Proof {
         encoding: 0,
         assume: Items::from_vec(assume),
@@ -82,76 +80,89 @@ fn refused(
     }))
 }
 
-/// Whether no assignment has the value.
-fn is_refused(tried: &Tried) -> bool {
-    match tried {
-        Tried::Refused(_) => true,
-        Tried::Fits | Tried::Spent { .. } => false,
-    }
+/// The same by a copy of the refutation.
+fn refused_by_copy(
+    alloc: Global,
+    layout: &Encoded,
+    sought: &Sought<'_>,
+    own: &[Lit],
+    refutation: &Refutation,
+    reason: ProofReason,
+) -> Result<Tried, NoMemory>
+    ensures { IfOk result (λ t. t ≡ tried_of (answer.Refuted refutation.now) (fixed_lits layout.now sought.now.chosen.now ++ own.now ++ layout.now.roots.items) reason) }
+{
+    let copy = copied(alloc, refutation)?;
+    refused(alloc, layout, sought, own, copy, reason)
 }
 
 /// Tries a value. No question is asked where one of its literals is denied, and where the value is refused its literals are asked for one by one.
 fn try_with(
     alloc: Global,
     asking: &Asking<'_>,
-    solver: &mut Solver,
+    asker: &mut Asker,
     sought: &Sought<'_>,
     known: &mut Known,
     value: u64,
     reason: ProofReason,
 ) -> Result<Tried, NoMemory>
-    requires can { CanAsk asking.now solver.old }
+    requires can { CanAsk asking.now asker.old.solver }
     requires sought { IsSought asking.now sought.now }
+    requires front { AreInFront asking.now sought.now.chosen.now asker.old.front.items }
     requires below { value < 2 ^ width_of (frame_term asking.now.frame.now) sought.now.prop }
-    requires denied { AreDenied asking.now sought.now solver.old.clauses known.old.denied.items }
-    ensures can { CanAsk asking.now solver.new }
-    ensures same { solver.new.clauses ≡ solver.old.clauses }
-    ensures denied { AreDenied asking.now sought.now solver.old.clauses known.new.denied.items }
-    ensures tried { IfOk result (IsTried (over asking.now solver.old.clauses) (sought.now.chosen.now ++ (sought.now.prop, value) ∷ []) reason) }
+    requires denied { AreDenied asking.now sought.now asker.old.solver.clauses known.old.denied.items }
+    ensures can { CanAsk asking.now asker.new.solver }
+    ensures same { asker.new.solver.clauses ≡ asker.old.solver.clauses }
+    ensures front { OnOk result (AreInFront asking.now sought.now.chosen.now asker.new.front.items) }
+    ensures denied { AreDenied asking.now sought.now asker.old.solver.clauses known.new.denied.items }
+    ensures tried { IfOk result (IsTried (over asking.now asker.old.solver.clauses) (sought.now.chosen.now ++ (sought.now.prop, value) ∷ []) reason) }
 {
     let own = spelled(alloc, sought.row, value)?;
     let lits = own.as_slice();
     if let Some(refutation) = denied_among(known.denied.as_slice(), lits) {
-        return refused(alloc, asking.layout, sought, value, refutation, reason);
+        return refused_by_copy(alloc, asking.layout, sought, lits, refutation, reason);
     }
-    let tried = try_value(alloc, asking, solver, sought, value, reason)?;
-    if !is_refused(&tried) {
-        return Ok(tried);
+    let answer = ask_with(asking, asker, lits, asking.budget)?;
+    match answer {
+        Answer::Satisfied(_) => Ok(Tried::Fits),
+        Answer::Spent { log, first } => Ok(Tried::Spent { log, first }),
+        Answer::Refuted(refutation) => {
+            ask_each(asking, asker, sought, lits, known)?;
+            refused(alloc, asking.layout, sought, lits, refutation, reason)
+        }
     }
-    ask_each(alloc, asking, solver, sought, lits, known)?;
-    Ok(tried)
 }
 
 /// Whether a value fits. No question is asked where one of its literals is denied, and where the value is refused its literals are asked for one by one.
 fn fit_of(
     alloc: Global,
     asking: &Asking<'_>,
-    solver: &mut Solver,
+    asker: &mut Asker,
     sought: &Sought<'_>,
     known: &mut Known,
     value: u64,
-    reason: ProofReason,
 ) -> Result<Fit, NoMemory>
-    requires can { CanAsk asking.now solver.old }
+    requires can { CanAsk asking.now asker.old.solver }
     requires sought { IsSought asking.now sought.now }
+    requires front { AreInFront asking.now sought.now.chosen.now asker.old.front.items }
     requires below { value < 2 ^ width_of (frame_term asking.now.frame.now) sought.now.prop }
-    requires denied { AreDenied asking.now sought.now solver.old.clauses known.old.denied.items }
-    ensures can { CanAsk asking.now solver.new }
-    ensures same { solver.new.clauses ≡ solver.old.clauses }
-    ensures denied { AreDenied asking.now sought.now solver.old.clauses known.new.denied.items }
-    ensures fits { IfOk result (IsFit (over asking.now solver.old.clauses) (sought.now.chosen.now ++ (sought.now.prop, value) ∷ [])) }
+    requires denied { AreDenied asking.now sought.now asker.old.solver.clauses known.old.denied.items }
+    ensures can { CanAsk asking.now asker.new.solver }
+    ensures same { asker.new.solver.clauses ≡ asker.old.solver.clauses }
+    ensures front { OnOk result (AreInFront asking.now sought.now.chosen.now asker.new.front.items) }
+    ensures denied { AreDenied asking.now sought.now asker.old.solver.clauses known.new.denied.items }
+    ensures fits { IfOk result (IsFit (over asking.now asker.old.solver.clauses) (sought.now.chosen.now ++ (sought.now.prop, value) ∷ [])) }
 {
     let own = spelled(alloc, sought.row, value)?;
     let lits = own.as_slice();
     if is_denied(known.denied.as_slice(), lits) {
         return Ok(Fit::Cannot);
     }
-    let tried = try_value(alloc, asking, solver, sought, value, reason)?;
-    match tried {
-        Tried::Fits => Ok(Fit::Can),
-        Tried::Spent { log, first } => Ok(Fit::Spent { log, first }),
-        Tried::Refused(_) => {
-            ask_each(alloc, asking, solver, sought, lits, known)?;
+    let answer = ask_with(asking, asker, lits, asking.budget)?;
+    match answer {
+        Answer::Satisfied(_) => Ok(Fit::Can),
+        Answer::Spent { log, first } => Ok(Fit::Spent { log, first }),
+        Answer::Refuted(_) => {
+            ask_each(asking, asker, sought, lits, known)?;
             Ok(Fit::Cannot)
         }
     }
@@ -161,24 +172,24 @@ fn fit_of(
 fn first_found(
     alloc: Global,
     asking: &Asking<'_>,
-    solver: &mut Solver,
+    asker: &mut Asker,
     sought: &Sought<'_>,
     known: &mut Known,
-    among: Among,
     values: &[u64],
 ) -> Result<Option<Looked>, NoMemory>
-    requires can { CanAsk asking.now solver.old }
+    requires can { CanAsk asking.now asker.old.solver }
     requires sought { IsSought asking.now sought.now }
+    requires front { AreInFront asking.now sought.now.chosen.now asker.old.front.items }
     requires below { All (λ v. v < 2 ^ width_of (frame_term asking.now.frame.now) sought.now.prop) values.now }
-    requires denied { AreDenied asking.now sought.now solver.old.clauses known.old.denied.items }
-    ensures can { CanAsk asking.now solver.new }
-    ensures same { solver.new.clauses ≡ solver.old.clauses }
-    ensures denied { AreDenied asking.now sought.now solver.old.clauses known.new.denied.items }
-    ensures found { IfOk result (λ o. IfSome o (IsLooked (over asking.now solver.old.clauses) sought.now.chosen.now sought.now.prop (reason_of among sought.now.prop) values.now)) }
+    requires denied { AreDenied asking.now sought.now asker.old.solver.clauses known.old.denied.items }
+    ensures can { CanAsk asking.now asker.new.solver }
+    ensures same { asker.new.solver.clauses ≡ asker.old.solver.clauses }
+    ensures front { OnOk result (AreInFront asking.now sought.now.chosen.now asker.new.front.items) }
+    ensures denied { AreDenied asking.now sought.now asker.old.solver.clauses known.new.denied.items }
+    ensures found { IfOk result (λ o. IfSome o (λ end. (cause : ℕ → ProofReason) → IsLooked (over asking.now asker.old.solver.clauses) sought.now.chosen.now sought.now.prop cause values.now end)) }
 {
     for value in values {
-        let why = reason(among, sought.prop, *value);
-        let found = fit_of(alloc, asking, solver, sought, known, *value, why)?;
+        let found = fit_of(alloc, asking, asker, sought, known, *value)?;
         match found {
             Fit::Can => return Ok(Some(Looked::Found(*value))),
             Fit::Cannot => {}
@@ -192,24 +203,26 @@ fn first_found(
 fn none_fitting(
     alloc: Global,
     asking: &Asking<'_>,
-    solver: &mut Solver,
+    asker: &mut Asker,
     sought: &Sought<'_>,
     known: &mut Known,
     among: Among,
     values: &[u64],
 ) -> Result<Looked, NoMemory>
-    requires can { CanAsk asking.now solver.old }
+    requires can { CanAsk asking.now asker.old.solver }
     requires sought { IsSought asking.now sought.now }
+    requires front { AreInFront asking.now sought.now.chosen.now asker.old.front.items }
     requires below { All (λ v. v < 2 ^ width_of (frame_term asking.now.frame.now) sought.now.prop) values.now }
-    requires denied { AreDenied asking.now sought.now solver.old.clauses known.old.denied.items }
-    ensures can { CanAsk asking.now solver.new }
-    ensures same { solver.new.clauses ≡ solver.old.clauses }
-    ensures looked { IfOk result (IsLooked (over asking.now solver.old.clauses) sought.now.chosen.now sought.now.prop (reason_of among sought.now.prop) values.now) }
+    requires denied { AreDenied asking.now sought.now asker.old.solver.clauses known.old.denied.items }
+    ensures can { CanAsk asking.now asker.new.solver }
+    ensures same { asker.new.solver.clauses ≡ asker.old.solver.clauses }
+    ensures front { OnOk result (AreInFront asking.now sought.now.chosen.now asker.new.front.items) }
+    ensures looked { IfOk result (IsLooked (over asking.now asker.old.solver.clauses) sought.now.chosen.now sought.now.prop (reason_of among sought.now.prop) values.now) }
 {
     let mut proofs = Items::new(alloc);
     for value in values {
         let why = reason(among, sought.prop, *value);
-        let tried = try_with(alloc, asking, solver, sought, known, *value, why)?;
+        let tried = try_with(alloc, asking, asker, sought, known, *value, why)?;
         match tried {
             Tried::Fits => return Ok(Looked::Found(*value)),
             Tried::Refused(proof) => proofs.push(proof)?,
@@ -223,22 +236,24 @@ fn none_fitting(
 pub(crate) fn first_fitting(
     alloc: Global,
     asking: &Asking<'_>,
-    solver: &mut Solver,
+    asker: &mut Asker,
     sought: &Sought<'_>,
     among: Among,
     values: &[u64],
 ) -> Result<Looked, NoMemory>
-    requires can { CanAsk asking.now solver.old }
+    requires can { CanAsk asking.now asker.old.solver }
     requires sought { IsSought asking.now sought.now }
+    requires front { AreInFront asking.now sought.now.chosen.now asker.old.front.items }
     requires below { All (λ v. v < 2 ^ width_of (frame_term asking.now.frame.now) sought.now.prop) values.now }
-    ensures can { CanAsk asking.now solver.new }
-    ensures same { solver.new.clauses ≡ solver.old.clauses }
-    ensures looked { IfOk result (IsLooked (over asking.now solver.old.clauses) sought.now.chosen.now sought.now.prop (reason_of among sought.now.prop) values.now) }
+    ensures can { CanAsk asking.now asker.new.solver }
+    ensures same { asker.new.solver.clauses ≡ asker.old.solver.clauses }
+    ensures front { OnOk result (AreInFront asking.now sought.now.chosen.now asker.new.front.items) }
+    ensures looked { IfOk result (IsLooked (over asking.now asker.old.solver.clauses) sought.now.chosen.now sought.now.prop (reason_of among sought.now.prop) values.now) }
 {
     let mut known = Known::new(alloc);
-    let found = first_found(alloc, asking, solver, sought, &mut known, among, values)?;
+    let found = first_found(alloc, asking, asker, sought, &mut known, values)?;
     if let Some(looked) = found {
         return Ok(looked);
     }
-    none_fitting(alloc, asking, solver, sought, &mut known, among, values)
+    none_fitting(alloc, asking, asker, sought, &mut known, among, values)
 }

@@ -8,9 +8,10 @@ ghost use Rattle.svr_phase.specs.Ends.{cyclic_props};
 ghost use Rattle.svr_cyclic.specs.Questions.{HasClausesOf};
 ghost use Rattle.svr_cyclic.specs.Phase.{call_at, over_call, IsReached};
 
-use crate::ask::Asking;
+use crate::ask::{Asker, Asking, Sought, put_in_front};
 use crate::memory::NoMemory;
 use crate::property::{ValueEnd, choose_value};
+use crate::row::row_of;
 use crate::used::inserted;
 use sqlite_items::Items;
 use std::alloc::Global;
@@ -19,7 +20,6 @@ use svr_draw::Draws;
 use svr_encoded::Encoded;
 use svr_frame::Frame;
 use svr_phase::{Options, Proof, Renewed};
-use svr_query::Solver;
 use svr_world::{Replacement, World};
 
 /// A call as the phase is given it: an object, whose used values it reads, its frame, its number, and the options of the run.
@@ -107,17 +107,18 @@ pub(crate) fn choose_all(
     call: &Calling<'_>,
     layout: &Encoded,
     prefer: &[bool],
-    solver: &mut Solver,
+    asker: &mut Asker,
     props: &[u32],
 ) -> Result<Reached, NoMemory>
     requires sound { IsSound (frame_term call.now.frame.now) }
     requires budget { 1 ≤ call.now.opts.budget }
-    requires has { HasClausesOf (frame_term call.now.frame.now) layout.now solver.old }
-    requires prefer { length prefer.now ≡ solver.old.vars }
+    requires has { HasClausesOf (frame_term call.now.frame.now) layout.now asker.old.solver }
+    requires front { asker.old.front.items ≡ layout.now.roots.items }
+    requires prefer { length prefer.now ≡ asker.old.solver.vars }
     requires props { props.now ≡ cyclic_props (frame_term call.now.frame.now) }
-    ensures has { HasClausesOf (frame_term call.now.frame.now) layout.now solver.new }
-    ensures same { solver.new.clauses ≡ solver.old.clauses }
-    ensures reached { IfOk result (IsReached (call_at call.now) (over_call (call_at call.now) layout.now solver.old.clauses)) }
+    ensures has { HasClausesOf (frame_term call.now.frame.now) layout.now asker.new.solver }
+    ensures same { asker.new.solver.clauses ≡ asker.old.solver.clauses }
+    ensures reached { IfOk result (IsReached (call_at call.now) (over_call (call_at call.now) layout.now asker.old.solver.clauses)) }
 {
     let asking = Asking {
         frame: call.frame,
@@ -128,28 +129,31 @@ pub(crate) fn choose_all(
     let mut draws = Draws::new(call.opts.seed, call.number);
     let mut progress = Progress::new(alloc);
     for prop in props {
-        let before = call.world.used(call.object, *prop);
+        let prop = *prop;
+        let before = call.world.used(call.object, prop);
         let word = draws.word();
+        let bits = row_of(alloc, layout, prop)?;
+        let row = bits.as_slice();
         let chosen = progress.chosen.as_slice();
-        let end = choose_value(alloc, &asking, solver, chosen, *prop, before, word)?;
+        let sought = Sought { prop, chosen, row };
+        let end = choose_value(alloc, &asking, asker, &sought, before, word)?;
         // Each arm goes on by itself, so that the prover sees no join.
         match end {
             ValueEnd::Going(value) => {
-                progress.take(alloc, *prop, value, before)?;
+                progress.take(alloc, prop, value, before)?;
+                put_in_front(alloc, &mut asker.front, row, value)?;
                 continue;
             }
             ValueEnd::Begun { value, proofs } => {
-                progress.begin(alloc, *prop, value, proofs)?;
+                progress.begin(alloc, prop, value, proofs)?;
+                put_in_front(alloc, &mut asker.front, row, value)?;
                 continue;
             }
             ValueEnd::NoneFits(proofs) => {
                 let chosen = progress.chosen;
                 return Ok(Reached::NoneFits { chosen, proofs });
             }
-            ValueEnd::Spent { log, first } => {
-                let prop = *prop;
-                return Ok(Reached::Spent { prop, log, first });
-            }
+            ValueEnd::Spent { log, first } => return Ok(Reached::Spent { prop, log, first }),
         }
     }
     Ok(Reached::Done(progress))

@@ -1,23 +1,20 @@
 // The choice for one property.
 
-ghost use Rattle.std.specs.Prelude.{◌≡◌, ◌<◌, ◌^◌, IfOk};
+ghost use Rattle.std.specs.Prelude.{◌≡◌, ◌<◌, ◌^◌, IfOk, OnOk};
 ghost use Rattle.std.specs.List.{All};
 ghost use Rattle.svr_frame.specs.Frame.{frame_term, width_of, domain_of};
 ghost use Rattle.svr_phase.specs.Cyclic.{turned, unused};
-ghost use Rattle.svr_cyclic.specs.Questions.{CanAsk, IsNext, IsSought, over};
+ghost use Rattle.svr_cyclic.specs.Questions.{AreInFront, CanAsk, IsSought, over};
 ghost use Rattle.svr_cyclic.specs.Values.{EndsBehind, IsValueEnd};
 
-use crate::ask::{Asking, Sought};
+use crate::ask::{Asker, Asking, Sought};
 use crate::look::{Among, Looked, first_fitting};
 use crate::memory::NoMemory;
-use crate::row::row_of;
 use crate::values::trials_of;
 use sqlite_items::Items;
 use std::alloc::Global;
 use svr_chain::Refutation;
 use svr_phase::Proof;
-use svr_query::Solver;
-use svr_question::fixed_literals;
 
 /// What the choice of a value came to.
 #[derive(Drop)]
@@ -36,19 +33,21 @@ pub(crate) enum ValueEnd {
 fn begin_cycle(
     alloc: Global,
     asking: &Asking<'_>,
-    solver: &mut Solver,
+    asker: &mut Asker,
     sought: &Sought<'_>,
     domain: &[u64],
     proofs: Items<Proof>,
 ) -> Result<ValueEnd, NoMemory>
-    requires can { CanAsk asking.now solver.old }
+    requires can { CanAsk asking.now asker.old.solver }
     requires sought { IsSought asking.now sought.now }
+    requires front { AreInFront asking.now sought.now.chosen.now asker.old.front.items }
     requires below { All (λ v. v < 2 ^ width_of (frame_term asking.now.frame.now) sought.now.prop) domain.now }
-    ensures can { CanAsk asking.now solver.new }
-    ensures same { solver.new.clauses ≡ solver.old.clauses }
-    ensures end { IfOk result (EndsBehind (over asking.now solver.old.clauses) sought.now.chosen.now sought.now.prop proofs domain.now) }
+    ensures can { CanAsk asking.now asker.new.solver }
+    ensures same { asker.new.solver.clauses ≡ asker.old.solver.clauses }
+    ensures front { OnOk result (AreInFront asking.now sought.now.chosen.now asker.new.front.items) }
+    ensures end { IfOk result (EndsBehind (over asking.now asker.old.solver.clauses) sought.now.chosen.now sought.now.prop proofs domain.now) }
 {
-    let looked = first_fitting(alloc, asking, solver, sought, Among::Domain, domain)?;
+    let looked = first_fitting(alloc, asking, asker, sought, Among::Domain, domain)?;
     match looked {
         Looked::Found(value) => Ok(ValueEnd::Begun { value, proofs }),
         Looked::NoneFits(refused) => Ok(ValueEnd::NoneFits(refused)),
@@ -60,35 +59,26 @@ fn begin_cycle(
 pub(crate) fn choose_value(
     alloc: Global,
     asking: &Asking<'_>,
-    solver: &mut Solver,
-    chosen: &[(u32, u64)],
-    prop: u32,
+    asker: &mut Asker,
+    sought: &Sought<'_>,
     used: &[u64],
     word: u64,
 ) -> Result<ValueEnd, NoMemory>
-    requires can { CanAsk asking.now solver.old }
-    requires next { IsNext (frame_term asking.now.frame.now) chosen.now prop }
-    ensures can { CanAsk asking.now solver.new }
-    ensures same { solver.new.clauses ≡ solver.old.clauses }
-    ensures end { IfOk result (IsValueEnd (over asking.now solver.old.clauses) chosen.now prop (turned word (unused used.now (domain_of (frame_term asking.now.frame.now) prop))) (turned word (domain_of (frame_term asking.now.frame.now) prop))) }
+    requires can { CanAsk asking.now asker.old.solver }
+    requires sought { IsSought asking.now sought.now }
+    requires front { AreInFront asking.now sought.now.chosen.now asker.old.front.items }
+    ensures can { CanAsk asking.now asker.new.solver }
+    ensures same { asker.new.solver.clauses ≡ asker.old.solver.clauses }
+    ensures front { OnOk result (AreInFront asking.now sought.now.chosen.now asker.new.front.items) }
+    ensures end { IfOk result (IsValueEnd (over asking.now asker.old.solver.clauses) sought.now.chosen.now sought.now.prop (turned word (unused used.now (domain_of (frame_term asking.now.frame.now) sought.now.prop))) (turned word (domain_of (frame_term asking.now.frame.now) sought.now.prop))) }
 {
-    let lits = fixed_literals(alloc, asking.layout, chosen)?;
-    let bits = row_of(alloc, asking.layout, prop)?;
-    let literals = lits.as_slice();
-    let row = bits.as_slice();
-    let sought = Sought {
-        prop,
-        chosen,
-        literals,
-        row,
-    };
-    let tries = trials_of(alloc, asking.frame, prop, used, word)?;
+    let tries = trials_of(alloc, asking.frame, sought.prop, used, word)?;
     let left = tries.unused.as_slice();
     let whole = tries.domain.as_slice();
-    let looked = first_fitting(alloc, asking, solver, &sought, Among::Unused, left)?;
+    let looked = first_fitting(alloc, asking, asker, sought, Among::Unused, left)?;
     match looked {
         Looked::Found(value) => Ok(ValueEnd::Going(value)),
-        Looked::NoneFits(proofs) => begin_cycle(alloc, asking, solver, &sought, whole, proofs),
+        Looked::NoneFits(proofs) => begin_cycle(alloc, asking, asker, sought, whole, proofs),
         Looked::Spent { log, first } => Ok(ValueEnd::Spent { log, first }),
     }
 }

@@ -1,24 +1,23 @@
 // Single literals of a property that no assignment has: a value that spells one needs no question.
 
-ghost use Rattle.std.specs.Prelude.{◌≡◌, [], ◌∷◌, ◌++◌, List, IfOk, IfSome, true};
+ghost use Rattle.std.specs.Prelude.{◌≡◌, [], ◌∷◌, ◌++◌, List, IfOk, IfSome, OnOk, true};
 ghost use Rattle.std.specs.List.{All};
 ghost use Rattle.svr_chain.specs.declared.clause.Lit.{Lit};
 ghost use Rattle.svr_chain.specs.Views.{RefutationView};
 ghost use Rattle.svr_query.specs.Answer.{IsRefutation};
-ghost use Rattle.svr_cyclic.specs.Questions.{CanAsk, IsSought};
+ghost use Rattle.svr_cyclic.specs.Questions.{AreInFront, CanAsk, IsSought};
 ghost use Rattle.svr_cyclic.specs.Denials.{AreDenied, IsDenied, IsOwn, AreOwn};
 
-use crate::ask::{Asking, Sought};
+use crate::ask::{Asker, Asking, Sought, ask_with};
 use crate::memory::NoMemory;
 use std::alloc::Global;
 use svr_chain::{Lit, Refutation, Step, has_lit};
-use svr_encoded::Encoded;
-use svr_query::{Answer, Solver};
+use svr_query::Answer;
 
 /// The steps that a question about a single literal may take.
 const FEW: u64 = 1000;
 
-/// A literal that no assignment has behind the chosen values, with the refutation that shows it.
+/// A literal that no assignment has behind those in front, with the refutation that shows it.
 #[derive(Drop)]
 pub(crate) struct Denied {
     pub lit: Lit,
@@ -55,43 +54,27 @@ fn is_settled(known: &Known, lit: Lit) -> bool {
     is_met || has_lit(known.asked.as_slice(), lit)
 }
 
-/// The literals that a question about a single one assumes: those of the chosen values, this one, and those of the hard items.
-fn assumed_with(
-    alloc: Global,
-    layout: &Encoded,
-    sought: &Sought<'_>,
-    lit: Lit,
-) -> Result<Vec<Lit>, NoMemory>
-    ensures { IfOk result (λ ls. ls.items ≡ sought.now.literals.now ++ lit ∷ layout.now.roots.items) }
-{
-    let roots = layout.roots.as_slice();
-    let mut all = Vec::from_slice(alloc, sought.literals)?;
-    all.push(lit)?;
-    all.extend_from_slice(roots)?;
-    Ok(all)
-}
-
-/// Asks whether some assignment has a literal behind the chosen values.
+/// Asks whether some assignment has a literal behind those in front.
 fn ask_single(
-    alloc: Global,
     asking: &Asking<'_>,
-    solver: &mut Solver,
+    asker: &mut Asker,
     sought: &Sought<'_>,
     lit: Lit,
     known: &mut Known,
 ) -> Result<(), NoMemory>
-    requires can { CanAsk asking.now solver.old }
+    requires can { CanAsk asking.now asker.old.solver }
     requires sought { IsSought asking.now sought.now }
+    requires front { AreInFront asking.now sought.now.chosen.now asker.old.front.items }
     requires own { IsOwn asking.now sought.now.prop lit }
-    requires denied { AreDenied asking.now sought.now solver.old.clauses known.old.denied.items }
-    ensures can { CanAsk asking.now solver.new }
-    ensures same { solver.new.clauses ≡ solver.old.clauses }
-    ensures denied { AreDenied asking.now sought.now solver.old.clauses known.new.denied.items }
+    requires denied { AreDenied asking.now sought.now asker.old.solver.clauses known.old.denied.items }
+    ensures can { CanAsk asking.now asker.new.solver }
+    ensures same { asker.new.solver.clauses ≡ asker.old.solver.clauses }
+    ensures front { OnOk result (AreInFront asking.now sought.now.chosen.now asker.new.front.items) }
+    ensures denied { AreDenied asking.now sought.now asker.old.solver.clauses known.new.denied.items }
 {
-    let assume = assumed_with(alloc, asking.layout, sought, lit)?;
-    let lits = assume.as_slice();
     known.asked.push(lit)?;
-    let answer = solver.ask(lits, asking.prefer, FEW)?;
+    let own = [lit];
+    let answer = ask_with(asking, asker, &own, FEW)?;
     match answer {
         Answer::Satisfied(values) => {
             known.met = values;
@@ -107,33 +90,34 @@ fn ask_single(
 
 /// Asks for the literals of a refused value one by one, but for those of which something is known.
 pub(crate) fn ask_each(
-    alloc: Global,
     asking: &Asking<'_>,
-    solver: &mut Solver,
+    asker: &mut Asker,
     sought: &Sought<'_>,
     own: &[Lit],
     known: &mut Known,
 ) -> Result<(), NoMemory>
-    requires can { CanAsk asking.now solver.old }
+    requires can { CanAsk asking.now asker.old.solver }
     requires sought { IsSought asking.now sought.now }
+    requires front { AreInFront asking.now sought.now.chosen.now asker.old.front.items }
     requires own { AreOwn asking.now sought.now.prop own.now }
-    requires denied { AreDenied asking.now sought.now solver.old.clauses known.old.denied.items }
-    ensures can { CanAsk asking.now solver.new }
-    ensures same { solver.new.clauses ≡ solver.old.clauses }
-    ensures denied { AreDenied asking.now sought.now solver.old.clauses known.new.denied.items }
+    requires denied { AreDenied asking.now sought.now asker.old.solver.clauses known.old.denied.items }
+    ensures can { CanAsk asking.now asker.new.solver }
+    ensures same { asker.new.solver.clauses ≡ asker.old.solver.clauses }
+    ensures front { OnOk result (AreInFront asking.now sought.now.chosen.now asker.new.front.items) }
+    ensures denied { AreDenied asking.now sought.now asker.old.solver.clauses known.new.denied.items }
 {
     for lit in own {
         if is_settled(known, *lit) {
             continue;
         }
-        ask_single(alloc, asking, solver, sought, *lit, known)?;
+        ask_single(asking, asker, sought, *lit, known)?;
     }
     Ok(())
 }
 
 /// The refutation of a denied literal among these.
 pub(crate) fn denied_among<'a>(denied: &'a [Denied], own: &[Lit]) -> Option<&'a Refutation>
-    ensures { (ks : List (List Lit)) (front roots : List Lit) → All (IsDenied ks front roots) denied.now → IfSome result (λ r. IsRefutation ks (front ++ own.now ++ roots) r.now) }
+    ensures { (ks : List (List Lit)) (front : List Lit) → All (IsDenied ks front) denied.now → IfSome result (λ r. IsRefutation ks (front ++ own.now) r.now) }
 {
     for one in denied {
         if has_lit(own, one.lit) {
@@ -145,7 +129,7 @@ pub(crate) fn denied_among<'a>(denied: &'a [Denied], own: &[Lit]) -> Option<&'a 
 
 /// Whether one of these literals is denied.
 pub(crate) fn is_denied(denied: &[Denied], own: &[Lit]) -> bool
-    ensures { (ks : List (List Lit)) (front roots : List Lit) → All (IsDenied ks front roots) denied.now → result ≡ true → (log : RefutationView) × IsRefutation ks (front ++ own.now ++ roots) log }
+    ensures { (ks : List (List Lit)) (front : List Lit) → All (IsDenied ks front) denied.now → result ≡ true → (log : RefutationView) × IsRefutation ks (front ++ own.now) log }
 {
     denied_among(denied, own).is_some()
 }

@@ -5,6 +5,7 @@ ghost use Rattle.svr_frame.specs.Frame.{frame_term};
 ghost use Rattle.svr_frame.specs.Sound.{IsSound};
 ghost use Rattle.svr_cyclic.specs.Questions.{EncodesCyclic, HasClausesOf};
 
+use crate::ask::Asker;
 use crate::memory::NoMemory;
 use std::alloc::Global;
 use svr_chain::Cnf;
@@ -26,27 +27,29 @@ pub(crate) fn encoded(alloc: Global, frame: &Frame) -> Result<Encoded, NoMemory>
     Ok(encoding)
 }
 
-/// An encoding apart from its clauses, a solver that has these, and a wish for each of its variables.
+/// An encoding apart from its clauses, a solver that has these, with the literals of the hard items in front of its questions, and a wish for each of its variables.
 #[derive(Drop)]
 pub(crate) struct Parted {
     pub layout: Encoded,
-    pub solver: Solver,
+    pub asker: Asker,
     pub prefer: Vec<bool>,
 }
 
-/// Takes the clauses out of an encoding, for a solver that knows its bits.
+/// Takes the clauses out of an encoding, for a solver that knows its bits, which is asked with the hard items.
 pub(crate) fn taken_apart(
     alloc: Global,
     frame: &Frame,
     encoding: Encoded,
 ) -> Result<Parted, NoMemory>
     requires { EncodesCyclic (frame_term frame.now) encoding }
-    ensures has { IfOk result (λ r. HasClausesOf (frame_term frame.now) r.layout r.solver) }
-    ensures prefer { IfOk result (λ r. length r.prefer.items ≡ r.solver.vars) }
+    ensures has { IfOk result (λ r. HasClausesOf (frame_term frame.now) r.layout r.asker.solver) }
+    ensures front { IfOk result (λ r. r.asker.front.items ≡ r.layout.roots.items) }
+    ensures prefer { IfOk result (λ r. length r.prefer.items ≡ r.asker.solver.vars) }
 {
     let rows = encoding.bits.as_slice();
     let bits_in_row = joined(alloc, rows)?;
     let prefer = vec![in alloc; false; encoding.cnf.vars as usize]?;
+    let front = Vec::from_slice(alloc, encoding.roots.as_slice())?;
     let Encoded {
         items,
         slots,
@@ -67,7 +70,7 @@ pub(crate) fn taken_apart(
     };
     Ok(Parted {
         layout,
-        solver,
+        asker: Asker { solver, front },
         prefer,
     })
 }
