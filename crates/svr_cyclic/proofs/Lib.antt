@@ -4,7 +4,6 @@ pub mod Parts
 pub mod Answered
 pub mod Lists
 pub mod Tries
-pub mod Spellings
 pub mod Denials
 pub mod Steps
 pub mod Fitting

@@ -1,5 +1,5 @@
 -- The literals of values that are fixed for the first cyclic properties: row after row, of variables that rise, and below the roots.
-use Rattle.std.proofs.Common.{◌≡◌, ◌≤◌, ◌+◌, ◌/◌, ◌%◌, ◌==◌, ℕ, zero, suc, Bool, true, false, ◌&&◌, List, [], ◌∷◌, ◌++◌, map, sum, length, Some, refl, sym, ap, ◌∙◌, subst, arith, append_assoc}
+use Rattle.std.proofs.Common.{◌≡◌, ◌≤◌, ◌<◌, ◌+◌, ◌/◌, ◌%◌, ◌==◌, ℕ, zero, suc, Bool, true, false, ◌&&◌, List, [], ◌∷◌, ◌++◌, map, sum, length, get_or, slice_index_or, Option, Some, refl, sym, ap, ◌∙◌, subst, arith, append_assoc, append-nil}
 use Rattle.std.specs.Prelude.{⊤, filter, if◌then◌else◌}
 use Rattle.std.specs.List.{flat_map, range_with_len}
 use Rattle.std.proofs.lemmas.Bool.{eq-eqb, ne_eqb}
@@ -7,6 +7,7 @@ use Rattle.std.proofs.lemmas.List.Concat.{flat_map-cons}
 use Rattle.std.proofs.lemmas.List.Sums.{sum_by-cons}
 use Rattle.svr_chain.specs.declared.clause.Lit.{Lit}
 use Rattle.svr_chain.specs.Clauses.{flip, AreWithin, is_tautology}
+use Rattle.svr_vector.specs.Places.{rows}
 use Rattle.svr_frame.specs.declared.slot.Slot.{Slot}
 use Rattle.svr_frame.specs.declared.slot.Slot.TheVariants.{Scalar}
 use Rattle.svr_frame.specs.Frame.{FrameTerm, is_cyclic, width_of}
@@ -17,7 +18,7 @@ use Rattle.svr_encoded.specs.Encodes.{AreRising}
 use Rattle.svr_phase.specs.Proof.{spelling, spelling_at, fixed_lits}
 use Rattle.svr_phase.specs.Ends.{cyclic_props}
 use Rattle.svr_question.proofs.Roots.{rising_within, rising_apart}
-use Rattle.svr_cyclic.specs.Questions.{EncodesCyclic, CanBeFixed}
+use Rattle.svr_cyclic.specs.Questions.{EncodesCyclic, CanBeFixed, IsRowOf}
 
 -- ---- properties that rise
 
@@ -101,6 +102,34 @@ module _ (f : FrameTerm) where
   fixed_are e encodes fixed others front =
       (λ i. flat_map (lits_at ((encodes.slots ∙ ap slots_of (sym front)) i) ((encodes.bits ∙ ap (bits_from 0) (sym front)) i)) fixed)
       ∙ spelled_rows 0 fixed others 0 (front_rises fixed others front)
+
+  -- ---- the row of one property
+
+  rise_at : (a i : ℕ) (ps : List ℕ) → Rise a ps → i < length ps → a ≤ get_or ps i 0
+  rise_at a i [] h lt = absurd (omega (arith, lt))
+  rise_at a zero (p ∷ ps) h lt = h.0
+  rise_at a (suc i) (p ∷ ps) h lt =
+      let rest = rise_at (p + 1) i ps h.1 (omega (arith, lt)) in
+      let all : a ≤ get_or ps i 0 = omega (arith, h.0, rest) in
+      all
+
+  bits_at : (n a i : ℕ) (ps : List ℕ) → Rise a ps → i < length ps → bits_where (is_at (get_or ps i 0) 0) (slots_of ps) (bits_from n ps) ≡ Some (slice_index_or (bits_from n ps) i [])
+  bits_at n a i [] h lt = absurd (omega (arith, lt))
+  bits_at n a zero (p ∷ ps) h lt = ap (λ b. if b && true then Some (positives n (width_of f p)) else bits_where (is_at p 0) (slots_of ps) (bits_from (n + width_of f p) ps)) (eq-eqb p p refl)
+  bits_at n a (suc i) (p ∷ ps) h lt =
+      let here : i < length ps = omega (arith, lt) in
+      let above = rise_at (p + 1) i ps h.1 here in
+      ap (λ b. if b && true then Some (positives n (width_of f p)) else bits_where (is_at (get_or ps i 0) 0) (slots_of ps) (bits_from (n + width_of f p) ps))
+      (ne_eqb p (get_or ps i 0) (λ e. absurd (omega (arith, above, e)))) ∙ bits_at (n + width_of f p) (p + 1) i ps h.1 here
+
+  -- the bits of the property at a place among the cyclic ones
+  pub row_there : (e : Encoded) → EncodesCyclic f e → (i : ℕ) → i < length (cyclic_props f) → IsRowOf e (get_or (cyclic_props f) i 0) (slice_index_or (rows e.bits.items) i [])
+  row_there e encodes i lt v =
+      let found : bits_where (is_at (get_or (cyclic_props f) i 0) 0) e.slots.items (rows e.bits.items) ≡ Some (slice_index_or (rows e.bits.items) i [])
+      =
+      (λ k. bits_where (is_at (get_or (cyclic_props f) i 0) 0) (encodes.slots k) (encodes.bits k)) ∙ bits_at 0 0 i (cyclic_props f) (rise_range (is_cyclic f) 0 (length f.class.props)) lt
+      ∙ ap (λ (bs : List (List Lit)). Some (slice_index_or bs i [])) (sym encodes.bits) in
+      append-nil (spelling_at (bits_where (is_at (get_or (cyclic_props f) i 0) 0) e.slots.items (rows e.bits.items)) v) ∙ ap (λ (o : Option (List Lit)). spelling_at o v) found
 
   -- ---- variables that rise
 

@@ -15,6 +15,8 @@ use Rattle.svr_phase.specs.declared.proof.Renewed.{Renewed}
 use Rattle.svr_phase.specs.declared.proof.ProofReason.TheVariants.{Cycle, Randc}
 use Rattle.svr_chain.specs.declared.clause.Lit.{Lit}
 use Rattle.svr_chain.specs.Views.{RefutationView}
+use Rattle.svr_query.specs.Answer.{SolverView}
+use Rattle.svr_vector.specs.Places.{rows}
 use Rattle.svr_encoded.specs.declared.encoded.Encoded.{Encoded}
 use Rattle.svr_phase.specs.Cyclic.{Cycles, fixed_of, turned, unused, tried_for, inserted, used_after, Fits, IsFirst, AreChosen}
 use Rattle.svr_phase.specs.Ends.{Call, cyclic_props, cycles_of, refused_values, Renewal, renewals}
@@ -24,10 +26,10 @@ use Rattle.svr_call.specs.Call.{new_used}
 use Rattle.svr_cyclic.specs.declared.phase.Progress.{Progress}
 use Rattle.svr_cyclic.specs.declared.property.ValueEnd.{ValueEnd}
 use Rattle.svr_cyclic.specs.declared.property.ValueEnd.TheVariants as end
-use Rattle.svr_cyclic.specs.Questions.{IsNext, Over}
+use Rattle.svr_cyclic.specs.Questions.{IsNext, IsRowOf, HasClausesOf, Over}
 use Rattle.svr_cyclic.specs.Values.{CannotTake, IsFirstOf, IsTryingOf, AreRefuted, IsValueEnd}
 use Rattle.svr_cyclic.specs.Phase.{over_call, AreRenewed, IsSoFar, HasNone, IsTryingAt}
-use Rattle.svr_cyclic.proofs.Rows.{prop_of}
+use Rattle.svr_cyclic.proofs.Rows.{prop_of, row_there}
 use Rattle.svr_cyclic.proofs.Lists.{parted_at}
 use Rattle.svr_cyclic.proofs.Tries.{first_going, first_begun, none_tried, still_tried}
 
@@ -98,6 +100,14 @@ module _ (c : Call) (o : Over) (props : List ℕ) (are : props ≡ cyclic_props 
   -- a place for each choice
   pub places : length far.choices ≡ i
   places = chosen_long c.frame (cycles_of c) (take i props) choices far.taken ∙ length-take-le i props (omega (arith, lt))
+
+  -- its row is at the place behind the values
+  pub row_here : (layout : Encoded) (s : SolverView) → HasClausesOf c.frame layout s → (place : ℕ) → place ≡ length g.chosen.items → IsRowOf layout p (slice_index_or (rows layout.bits.items) place [])
+  row_here layout s has place is =
+      let long : length g.chosen.items ≡ i = sym (length-map g.chosen.items prop_of) ∙ ap length props_far ∙ length-take-le i props (omega (arith, lt)) in
+      subst (λ (k : ℕ). IsRowOf layout (get_or props i 0) (slice_index_or (rows layout.bits.items) k [])) (sym (is ∙ long))
+      (subst (λ (ps : List ℕ). IsRowOf layout (get_or ps i 0) (slice_index_or (rows layout.bits.items) i [])) (sym are)
+      (row_there c.frame (record layout { cnf = has.cnf }) has.encodes i (subst (λ (ps : List ℕ). i < length ps) are lt)))
 
   pub next_is : IsSound c.frame → IsNext c.frame g.chosen.items p
   next_is sound = record {

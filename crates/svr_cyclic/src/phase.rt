@@ -11,7 +11,7 @@ ghost use Rattle.svr_cyclic.specs.Phase.{call_at, over_call, IsReached};
 use crate::ask::{Asker, Asking, Sought, put_in_front};
 use crate::memory::NoMemory;
 use crate::property::{ValueEnd, choose_value};
-use crate::row::row_of;
+use crate::row::row_at;
 use crate::used::inserted;
 use sqlite_items::Items;
 use std::alloc::Global;
@@ -132,9 +132,9 @@ pub(crate) fn choose_all(
         let prop = *prop;
         let before = call.world.used(call.object, prop);
         let word = draws.word();
-        let bits = row_of(alloc, layout, prop)?;
-        let row = bits.as_slice();
         let chosen = progress.chosen.as_slice();
+        let place = chosen.len();
+        let row = row_at(layout, place);
         let sought = Sought { prop, chosen, row };
         let end = choose_value(alloc, &asking, asker, &sought, before, word)?;
         // Each arm goes on by itself, so that the prover sees no join.

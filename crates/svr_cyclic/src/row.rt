@@ -1,15 +1,14 @@
 // The bits of a property, and the literals of its values.
 
-ghost use Rattle.std.specs.Prelude.{◌≡◌, ◌==◌, ◌%◌, map, IfOk, if◌then◌else◌};
+ghost use Rattle.std.specs.Prelude.{◌≡◌, ◌==◌, ◌%◌, [], slice_index_or, IfOk, if◌then◌else◌};
 ghost use Rattle.svr_chain.specs.Clauses.{flip};
+ghost use Rattle.svr_vector.specs.Places.{rows};
 ghost use Rattle.svr_phase.specs.Proof.{spelling};
-ghost use Rattle.svr_cyclic.specs.Questions.{IsRowOf};
 
 use crate::memory::NoMemory;
 use std::alloc::Global;
 use svr_chain::Lit;
 use svr_encoded::Encoded;
-use svr_question::fixed_literals;
 
 /// The literal that says that this bit is the last digit of the number.
 fn digit(bit: Lit, number: u64) -> Lit
@@ -31,23 +30,13 @@ pub(crate) fn spelled(alloc: Global, row: &[Lit], number: u64) -> Result<Vec<Lit
     Ok(literals)
 }
 
-/// The negations of literals.
-fn flipped(alloc: Global, lits: &[Lit]) -> Result<Vec<Lit>, NoMemory>
-    ensures { IfOk result (λ ls. ls.items ≡ map flip lits.now) }
+/// The bits of the property at a place among the cyclic ones, which are the unknowns of the phase.
+pub(crate) fn row_at(layout: &Encoded, place: usize) -> &[Lit]
+    ensures { result.now ≡ slice_index_or (rows layout.now.bits.items) place [] }
 {
-    let mut literals = Vec::new(alloc);
-    for lit in lits {
-        literals.push(lit.flipped())?;
+    if place < layout.bits.len() {
+        layout.bits[place].as_slice()
+    } else {
+        &[]
     }
-    Ok(literals)
-}
-
-/// The bits of a property: the literals of its value 0, turned.
-pub(crate) fn row_of(alloc: Global, layout: &Encoded, prop: u32) -> Result<Vec<Lit>, NoMemory>
-    ensures { IfOk result (λ row. IsRowOf layout.now prop row.items) }
-{
-    let zero = [(prop, 0)];
-    let literals = fixed_literals(alloc, layout, &zero)?;
-    let row = flipped(alloc, literals.as_slice())?;
-    Ok(row)
 }
