@@ -25,11 +25,12 @@ pub(crate) struct Asking<'a> {
     pub budget: u64,
 }
 
-/// The solver, and the literals in front of each question: those of the hard items, then those of the chosen values. They stay decided from one question to the next, since what changes stands behind them.
+/// The solver, the literals in front of each question, and the values of the assignment that was found last. In front are those of the hard items, then those of the chosen values: they stay decided from one question to the next, since what changes stands behind them.
 #[derive(Drop)]
 pub(crate) struct Asker {
     pub solver: Solver,
     pub front: Vec<Lit>,
+    pub met: Vec<bool>,
 }
 
 /// What is looked for: a value of a property behind the chosen ones, and the bits of the property.

@@ -156,6 +156,7 @@ fn chosen_in_turn(alloc: Global, call: &Calling<'_>, props: &[u32]) -> Result<Cy
     let Asker {
         solver,
         front: _front,
+        met: _met,
     } = asker;
     let given = whole(call.frame, layout, solver);
     concluded(alloc, given, reached)

@@ -123,7 +123,10 @@ fn try_with(
     }
     let answer = ask_with(asking, asker, lits, asking.budget)?;
     match answer {
-        Answer::Satisfied(_) => Ok(Tried::Fits),
+        Answer::Satisfied(values) => {
+            asker.met = values;
+            Ok(Tried::Fits)
+        }
         Answer::Spent { log, first } => Ok(Tried::Spent { log, first }),
         Answer::Refuted(refutation) => {
             ask_each(asking, asker, sought, lits, known)?;
@@ -159,7 +162,10 @@ fn fit_of(
     }
     let answer = ask_with(asking, asker, lits, asking.budget)?;
     match answer {
-        Answer::Satisfied(_) => Ok(Fit::Can),
+        Answer::Satisfied(values) => {
+            asker.met = values;
+            Ok(Fit::Can)
+        }
         Answer::Spent { log, first } => Ok(Fit::Spent { log, first }),
         Answer::Refuted(_) => {
             ask_each(asking, asker, sought, lits, known)?;

@@ -24,12 +24,11 @@ pub(crate) struct Denied {
     pub refutation: Refutation,
 }
 
-/// What is known of the literals of a property: those that are denied, those that were asked for, and the values of the assignment that was found last.
+/// What is known of the literals of a property: those that are denied, and those that were asked for.
 #[derive(Drop)]
 pub(crate) struct Known {
     pub denied: Vec<Denied>,
     pub asked: Vec<Lit>,
-    pub met: Vec<bool>,
 }
 
 impl Known {
@@ -40,18 +39,21 @@ impl Known {
         Known {
             denied: Vec::new(alloc),
             asked: Vec::new(alloc),
-            met: Vec::new(alloc),
         }
     }
 }
 
-/// Whether a literal was asked for, or is true in the assignment that was found last.
-fn is_settled(known: &Known, lit: Lit) -> bool {
-    let is_met = match known.met.get(lit.var.saturating_sub(1) as usize) {
+/// Whether a literal is true by these values of the variables from 1 on.
+fn is_met(values: &[bool], lit: Lit) -> bool {
+    match values.get(lit.var.saturating_sub(1) as usize) {
         Some(value) => *value != lit.neg,
         None => false,
-    };
-    is_met || has_lit(known.asked.as_slice(), lit)
+    }
+}
+
+/// Whether a literal was asked for, or is true in the assignment that was found last.
+fn is_settled(asker: &Asker, known: &Known, lit: Lit) -> bool {
+    is_met(asker.met.as_slice(), lit) || has_lit(known.asked.as_slice(), lit)
 }
 
 /// Asks whether some assignment has a literal behind those in front.
@@ -77,7 +79,7 @@ fn ask_single(
     let answer = ask_with(asking, asker, &own, FEW)?;
     match answer {
         Answer::Satisfied(values) => {
-            known.met = values;
+            asker.met = values;
             Ok(())
         }
         Answer::Refuted(refutation) => {
@@ -107,7 +109,7 @@ pub(crate) fn ask_each(
     ensures denied { AreDenied asking.now sought.now asker.old.solver.clauses known.new.denied.items }
 {
     for lit in own {
-        if is_settled(known, *lit) {
+        if is_settled(asker, known, *lit) {
             continue;
         }
         ask_single(asking, asker, sought, *lit, known)?;

@@ -68,9 +68,10 @@ pub(crate) fn taken_apart(
         },
         roots,
     };
+    let met = Vec::new(alloc);
     Ok(Parted {
         layout,
-        asker: Asker { solver, front },
+        asker: Asker { solver, front, met },
         prefer,
     })
 }
