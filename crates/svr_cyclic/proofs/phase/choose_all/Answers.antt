@@ -35,8 +35,8 @@ choose_value-requires-clause-sought c =
           (next_is call o c.args.props.now c.requires.props c.loop-prop.prop-index c.loop-prop-test.true c.loop-prop.progress c.loop-prop.invariant.far c.requires.sound);
       row =
           subst (λ (ls : List Lit). IsRowOf c.args.layout.now (get_or c.args.props.now c.loop-prop.prop-index 0) ls) (sym c.row_at-row.ensures)
-          (row_here call o c.args.props.now c.requires.props c.loop-prop.prop-index c.loop-prop-test.true c.loop-prop.progress c.loop-prop.invariant.far c.args.layout.now c.loop-prop.asker.solver c.loop-prop.invariant.can.has c.len-place.result
-          (c.len-place.ensures ∙ ap (λ (xs : List (ℕ × ℕ)). length xs) c.as_slice-chosen.ensures.value));
+          (row_here call o c.args.props.now c.requires.props c.loop-prop.prop-index c.loop-prop-test.true c.loop-prop.progress c.loop-prop.invariant.far c.args.layout.now c.loop-prop.asker.solver c.loop-prop.invariant.can.has (length c.as_slice-chosen.result.now)
+          (ap (λ (xs : List (ℕ × ℕ)). length xs) c.as_slice-chosen.ensures.value));
     }
 
 pub choose_value-requires-clause-front : goal.choose_value-requires-clause-front
@@ -61,7 +61,7 @@ loop-prop-preserved-in-Going c =
       front =
           front_more c.args.layout.now c.as_slice-chosen.result.now c.take.new.self.chosen.items (get_or props i 0) c.in-Going.value c.row_at-row.result.now _ _
           (subst (λ (ls : List Lit). IsRowOf c.args.layout.now (get_or props i 0) ls) (sym c.row_at-row.ensures)
-          (row_here call o props c.requires.props i c.loop-prop-test.true g inv.far c.args.layout.now c.loop-prop.asker.solver inv.can.has c.len-place.result (c.len-place.ensures ∙ ap (λ (xs : List (ℕ × ℕ)). length xs) c.as_slice-chosen.ensures.value))) c.in_ok-end.ensures.front c.in_ok-put_in_front-in-Going.ensures
+          (row_here call o props c.requires.props i c.loop-prop-test.true g inv.far c.args.layout.now c.loop-prop.asker.solver inv.can.has (length c.as_slice-chosen.result.now) (ap (λ (xs : List (ℕ × ℕ)). length xs) c.as_slice-chosen.ensures.value))) c.in_ok-end.ensures.front c.in_ok-put_in_front-in-Going.ensures
           (c.in_ok-take-in-Going.ensures.chosen ∙ ap (λ (xs : List (ℕ × ℕ)). xs ++ (get_or props i 0, c.in-Going.value) ∷ []) (sym c.as_slice-chosen.ensures.value));
       drawn = c.word-word.ensures.left ∙ ap (after 1) inv.drawn ∙ after_one i gen;
       far = so_far_going call o props c.requires.props i c.loop-prop-test.true g inv.far c.used-before.result.now c.used-before.ensures.used c.word-word.result word refl c.in-Going.value c.take.new.self here (inserted_rises c.in-Going.value c.used-before.result.now c.used-before.ensures.rising)
@@ -87,7 +87,7 @@ loop-prop-preserved c =
       front =
           front_more c.args.layout.now c.as_slice-chosen.result.now c.begin.new.self.chosen.items (get_or props i 0) c.in-Begun.value c.row_at-row.result.now _ _
           (subst (λ (ls : List Lit). IsRowOf c.args.layout.now (get_or props i 0) ls) (sym c.row_at-row.ensures)
-          (row_here call o props c.requires.props i c.loop-prop-test.true g inv.far c.args.layout.now c.loop-prop.asker.solver inv.can.has c.len-place.result (c.len-place.ensures ∙ ap (λ (xs : List (ℕ × ℕ)). length xs) c.as_slice-chosen.ensures.value))) c.in_ok-end.ensures.front c.in_ok-put_in_front-in-Begun.ensures
+          (row_here call o props c.requires.props i c.loop-prop-test.true g inv.far c.args.layout.now c.loop-prop.asker.solver inv.can.has (length c.as_slice-chosen.result.now) (ap (λ (xs : List (ℕ × ℕ)). length xs) c.as_slice-chosen.ensures.value))) c.in_ok-end.ensures.front c.in_ok-put_in_front-in-Begun.ensures
           (c.in_ok-begin-in-Begun.ensures.chosen ∙ ap (λ (xs : List (ℕ × ℕ)). xs ++ (get_or props i 0, c.in-Begun.value) ∷ []) (sym c.as_slice-chosen.ensures.value));
       drawn = c.word-word.ensures.left ∙ ap (after 1) inv.drawn ∙ after_one i gen;
       far = so_far_begun call o props c.requires.props i c.loop-prop-test.true g inv.far c.used-before.result.now c.used-before.ensures.used c.word-word.result word refl c.in-Begun.value c.in-Begun.proofs c.begin.new.self here (inserted_rises c.in-Begun.value [] none_rises)
