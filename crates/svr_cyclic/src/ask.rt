@@ -1,10 +1,10 @@
 // One question: whether some literals fit behind those of the hard items and of the chosen values.
 
-ghost use Rattle.std.specs.Prelude.{◌≡◌, ◌≤◌, ◌++◌, false, IfOk, OnOk};
+ghost use Rattle.std.specs.Prelude.{◌≡◌, ◌≤◌, ◌++◌, false, drop, IfOk, OnOk};
 ghost use Rattle.svr_chain.specs.Clauses.{AreWithin, is_tautology};
 ghost use Rattle.svr_phase.specs.Proof.{fixed_lits, spelling};
 ghost use Rattle.svr_query.specs.Answer.{IsAnswer};
-ghost use Rattle.svr_cyclic.specs.Questions.{CanAsk};
+ghost use Rattle.svr_cyclic.specs.Questions.{CanAsk, front_of};
 
 use crate::memory::NoMemory;
 use crate::row::spelled;
@@ -14,7 +14,6 @@ use svr_encoded::Encoded;
 use svr_frame::Frame;
 use svr_phase::Proof;
 use svr_query::{Answer, Solver};
-use svr_question::fixed_literals;
 
 /// What all questions of the phase are asked with: the frame, an encoding apart from its clauses, which the solver has, the values that the search tries first, and the budget in steps.
 #[derive(Clone, Copy)]
@@ -90,17 +89,31 @@ pub(crate) fn ask_with(
     Ok(answer)
 }
 
-/// The literals that a proof assumes: those of the chosen values, of the value that is refused, and of the hard items.
+/// What stands behind so many literals.
+fn behind(lits: &[Lit], count: usize) -> &[Lit]
+    ensures { result.now ≡ drop count lits.now }
+{
+    if count < lits.len() {
+        &lits[count..]
+    } else {
+        &[]
+    }
+}
+
+/// The literals that a proof assumes: those of the chosen values, of the value that is refused, and of the hard items. `front` are those in front of each question.
 pub(crate) fn assumed(
     alloc: Global,
     layout: &Encoded,
     sought: &Sought<'_>,
+    front: &[Lit],
     own: &[Lit],
 ) -> Result<Vec<Lit>, NoMemory>
+    requires { front.now ≡ front_of layout.now sought.now.chosen.now }
     ensures { IfOk result (λ ls. ls.items ≡ fixed_lits layout.now sought.now.chosen.now ++ own.now ++ layout.now.roots.items) }
 {
     let roots = layout.roots.as_slice();
-    let mut all = fixed_literals(alloc, layout, sought.chosen)?;
+    let chosen = behind(front, roots.len());
+    let mut all = Vec::from_slice(alloc, chosen)?;
     all.extend_from_slice(own)?;
     all.extend_from_slice(roots)?;
     Ok(all)

@@ -6,7 +6,7 @@ ghost use Rattle.svr_query.specs.declared.solver.Answer.TheVariants as answer;
 ghost use Rattle.svr_phase.specs.declared.proof.ProofReason.{ProofReason};
 ghost use Rattle.svr_phase.specs.Proof.{fixed_lits};
 ghost use Rattle.svr_frame.specs.Frame.{frame_term, width_of};
-ghost use Rattle.svr_cyclic.specs.Questions.{AreInFront, CanAsk, IsSought, IsTried, over, tried_of};
+ghost use Rattle.svr_cyclic.specs.Questions.{AreInFront, CanAsk, IsSought, IsTried, front_of, over, tried_of};
 ghost use Rattle.svr_cyclic.specs.Denials.{AreDenied};
 ghost use Rattle.svr_cyclic.specs.Values.{IsFit, IsLooked, reason_of};
 
@@ -65,13 +65,15 @@ fn refused(
     alloc: Global,
     layout: &Encoded,
     sought: &Sought<'_>,
+    front: &[Lit],
     own: &[Lit],
     refutation: Refutation,
     reason: ProofReason,
 ) -> Result<Tried, NoMemory>
+    requires { front.now ≡ front_of layout.now sought.now.chosen.now }
     ensures { IfOk result (λ t. t ≡ tried_of (answer.Refuted refutation) (fixed_lits layout.now sought.now.chosen.now ++ own.now ++ layout.now.roots.items) reason) }
 {
-    let assume = assumed(alloc, layout, sought, own)?;
+    let assume = assumed(alloc, layout, sought, front, own)?;
     Ok(Tried::Refused(Proof {
         encoding: 0,
         assume: Items::from_vec(assume),
@@ -85,14 +87,16 @@ fn refused_by_copy(
     alloc: Global,
     layout: &Encoded,
     sought: &Sought<'_>,
+    front: &[Lit],
     own: &[Lit],
     refutation: &Refutation,
     reason: ProofReason,
 ) -> Result<Tried, NoMemory>
+    requires { front.now ≡ front_of layout.now sought.now.chosen.now }
     ensures { IfOk result (λ t. t ≡ tried_of (answer.Refuted refutation.now) (fixed_lits layout.now sought.now.chosen.now ++ own.now ++ layout.now.roots.items) reason) }
 {
     let copy = copied(alloc, refutation)?;
-    refused(alloc, layout, sought, own, copy, reason)
+    refused(alloc, layout, sought, front, own, copy, reason)
 }
 
 /// Tries a value. No question is asked where one of its literals is denied, and where the value is refused its literals are asked for one by one.
@@ -119,7 +123,16 @@ fn try_with(
     let own = spelled(alloc, sought.row, value)?;
     let lits = own.as_slice();
     if let Some(refutation) = denied_among(known.denied.as_slice(), lits) {
-        return refused_by_copy(alloc, asking.layout, sought, lits, refutation, reason);
+        let front = asker.front.as_slice();
+        return refused_by_copy(
+            alloc,
+            asking.layout,
+            sought,
+            front,
+            lits,
+            refutation,
+            reason,
+        );
     }
     let answer = ask_with(asking, asker, lits, asking.budget)?;
     match answer {
@@ -130,7 +143,16 @@ fn try_with(
         Answer::Spent { log, first } => Ok(Tried::Spent { log, first }),
         Answer::Refuted(refutation) => {
             ask_each(asking, asker, sought, lits, known)?;
-            refused(alloc, asking.layout, sought, lits, refutation, reason)
+            let front = asker.front.as_slice();
+            refused(
+                alloc,
+                asking.layout,
+                sought,
+                front,
+                lits,
+                refutation,
+                reason,
+            )
         }
     }
 }
