@@ -231,6 +231,13 @@ def softs(size):
     return text + " " * (size - len(text))
 
 
+def kept_softs(size):
+    """Soft items that all hold together but for one, for which each is asked for."""
+    parts = "".join(f"soft a != 18'd{k};\n" for k in range(1, size // 420))
+    text = script(f"class P;\nrand bit [17:0] a;\nconstraint c {{\n{parts}soft a == 18'd5;\n}}\nendclass\n", "p.randomize();\n")
+    return text + " " * (size - len(text))
+
+
 def disables(size):
     """Soft items, and items that take them away, in turn."""
     return items(size, "rand bit [7:0] a;\n", lambda k: "soft a == 8'd3;disable soft a;\n" if k % 64 == 0 else "disable soft a;\n")
@@ -276,7 +283,7 @@ def hard_softs(size):
     return text + " " * (size - len(text))
 
 
-KINDS = [comment, name, properties, variables, statements, calls, arrays, loops, parentheses, classes, grown_classes, last_class, used_classes, made_classes, objects, blocks, modes, inherited_modes, turned_modes, ordered_classes, wide_classes, replaced, solves, uniques, softs, hard_softs, disables, members, searched_members, cyclic, new_cycles]
+KINDS = [comment, name, properties, variables, statements, calls, arrays, loops, parentheses, classes, grown_classes, last_class, used_classes, made_classes, objects, blocks, modes, inherited_modes, turned_modes, ordered_classes, wide_classes, replaced, solves, uniques, softs, hard_softs, kept_softs, disables, members, searched_members, cyclic, new_cycles]
 
 
 def text_of(kind, size):
