@@ -11,7 +11,7 @@ ghost use Rattle.svr_trail.specs.Trail.{Each, HasReason};
 ghost use Rattle.svr_watch.specs.Codes.{lit_of};
 ghost use Rattle.svr_watch.specs.Store.{clauses_of};
 
-use crate::marks::{has_more, is_kept, is_marked};
+use crate::marks::{has_more, is_kept, is_marked, next_place};
 use crate::memory::NoMemory;
 use std::alloc::Global;
 use svr_chain::{Clause, Link, Lit};
@@ -101,14 +101,18 @@ pub fn minimized(
     let mut lits = Vec::new(alloc);
     lits.push(pivot)?;
     let mut passed = links.len().saturating_add(1);
+    let mut unmarked: usize = 0;
     let mut left = place;
     'walk: while has_more(trail, marks, left, passed) {
         left -= 1;
         let entry = trail.entry(left);
         let lit = entry.lit.flipped();
         if !is_marked(marks, lit) {
+            unmarked = unmarked.saturating_add(1);
+            left = next_place(trail, marks, left, unmarked);
             continue;
         }
+        unmarked = 0;
         passed = passed.saturating_add(1);
         let Some(clause) = needless(store, marks, entry) else {
             lits.push(lit)?;

@@ -11,7 +11,7 @@ use Rattle.svr_cdcl.specs.Marks.{Marks, is_marked}
 use Rattle.svr_cdcl.specs.Walk.{Walk}
 use Rattle.svr_cdcl.proofs.Needless.{below-push, marks-same}
 use Rattle.svr_cdcl.proofs.Step.{step-decides, step-false, step-forced, step-resolves, step-skips}
-use Rattle.svr_cdcl.proofs.Passed.{walk-stops}
+use Rattle.svr_cdcl.proofs.Passed.{walk-jumps, walk-stops}
 use Rattle.svr_cdcl.proofs.minimize.minimized.Goals as goal
 
 pub walk-init : goal.walk-init
@@ -29,13 +29,17 @@ pub entry-entry-requires : goal.entry-entry-requires
 entry-entry-requires c =
     omega (arith, c.walk.invariant.walk.within, c.has_more.ensures.more c.walk-test.true)
 
+pub next_place-left-requires : goal.next_place-left-requires
+next_place-left-requires c = omega (arith, c.walk.invariant.walk.within)
+
 pub walk-preserved-then-not-is_marked : goal.walk-preserved-then-not-is_marked
 walk-preserved-then-not-is_marked c =
     let i = c.walk.invariant in
     let m : is_marked c.args.marks.now.entries c.flipped-lit.result.var ≡ false = sym c.is_marked.ensures ∙ c.if-not-is_marked.true in
+    let n = c.next_place-left in
     record {
-      walk = step-skips i.walk (c.has_more.ensures.more c.walk-test.true) c.len.ensures.apart c.entry-entry.ensures c.flipped-lit.ensures m;
-      short = omega (arith, i.short);
+      walk = walk-jumps n.result (step-skips i.walk (c.has_more.ensures.more c.walk-test.true) c.len.ensures.apart c.entry-entry.ensures c.flipped-lit.ensures m) n.ensures.within n.ensures.between;
+      short = omega (arith, i.short, n.ensures.within);
       pivot = i.pivot;
       below = i.below;
     }
