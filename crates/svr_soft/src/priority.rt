@@ -2,7 +2,9 @@
 
 ghost use Rattle.std.specs.Prelude.{◌≡◌, ◌+◌, ◌++◌, ◌≤◌, ◌<◌, ◌^◌, false, IfOk, length, take};
 ghost use Rattle.svr_chain.specs.Clauses.{AreWithin, is_tautology};
+ghost use Rattle.svr_chain.specs.Valuations.{lit_value};
 ghost use Rattle.svr_query.specs.Answer.{IsModel};
+ghost use Rattle.svr_query.specs.Logged.{valuation_of};
 ghost use Rattle.svr_soft.specs.End.{AllKeptBy, IsPassEnd};
 ghost use Rattle.svr_soft.specs.Kept.{ranks_to};
 ghost use Rattle.svr_soft.specs.Later.{IsLater};
@@ -41,6 +43,18 @@ fn ranks(alloc: Global, count: usize) -> Result<Vec<u32>, NoMemory>
         ranks.push(place as u32 + 1)?;
     }
     Ok(ranks)
+}
+
+/// Whether a literal is true under these values of the variables from 1 on.
+#[tactic(auto, unfolding(svr_chain::specs::Valuations::lit_value))]
+fn is_true(values: &[bool], lit: Lit) -> bool
+    ensures { result ≡ lit_value (valuation_of values.now) lit }
+{
+    let value = match values.get(lit.var.saturating_sub(1) as usize) {
+        Some(value) => *value,
+        None => false,
+    };
+    if lit.neg { !value } else { value }
 }
 
 /// Keeps each soft literal that can hold together with the clauses, the base and those of the kept ones that stand before it.
@@ -131,7 +145,7 @@ fn pass_in_turn(
     }
 }
 
-/// A question for each soft literal, behind the one for the base, which these values meet.
+/// A question for each soft literal that the values found last do not meet, behind the one for the base, which these values meet.
 fn soft_in_turn(
     alloc: Global,
     solver: &mut Solver,
@@ -160,6 +174,10 @@ fn soft_in_turn(
         rank += 1;
         let stands = assumed.len();
         assumed.push(*lit)?;
+        if is_true(values.as_slice(), *lit) {
+            kept.push(rank)?;
+            continue;
+        }
         let answer = solver.ask(assumed.as_slice(), prefer, budget)?;
         // Each arm goes on by itself, so that the prover sees no join.
         match answer {
