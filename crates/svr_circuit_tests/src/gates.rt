@@ -10,9 +10,25 @@ use svr_chain::{Cnf, Lit};
 use svr_gate::{Builder, NoMemory, table};
 
 /// Tables of two inputs, and how many clauses each takes.
-const OF_TWO: [(u16, usize); 3] = [(table!(both), 3), (table!(either), 3), (table!(unequal), 4)];
+const OF_TWO: [(u16, usize); 10] = [
+    (table!(both), 3),
+    (table!(either), 3),
+    (table!(unequal), 4),
+    (0x1, 3),
+    (0x2, 3),
+    (0x4, 3),
+    (0x7, 3),
+    (0x9, 4),
+    (0xb, 3),
+    (0xd, 3),
+];
 
-const OF_THREE: [(u16, usize); 3] = [(table!(sum), 8), (table!(carry), 6), (table!(choice), 4)];
+const OF_THREE: [(u16, usize); 4] = [
+    (table!(sum), 8),
+    (table!(carry), 6),
+    (table!(choice), 4),
+    (table!(agree), 5),
+];
 
 const OF_FOUR: [(u16, usize); 3] = [(0x6a3c, 16), (0x8001, 16), (0x6996, 16)];
 
@@ -36,12 +52,16 @@ const FOLDED: [(u16, [u8; 2], u8, bool); 5] = [
 ];
 
 /// A table of three, its known third input, and how many clauses it takes: a sum is a parity then,
-/// its carry a conjunction or a disjunction.
-const KNOWN: [(u16, u8, usize); 4] = [
+/// its carry, a choice and an agreement a conjunction or a disjunction, of a negation too.
+const KNOWN: [(u16, u8, usize); 8] = [
     (table!(sum), b'0', 4),
     (table!(sum), b'1', 4),
     (table!(carry), b'0', 3),
     (table!(carry), b'1', 3),
+    (table!(choice), b'0', 3),
+    (table!(choice), b'1', 3),
+    (table!(agree), b'0', 3),
+    (table!(agree), b'1', 3),
 ];
 
 /// Values of the variables 1 up: the bits of the number.

@@ -17,7 +17,7 @@ use Rattle.svr_gate.specs.declared.cover.Cube.{Cube}
 use Rattle.svr_gate.specs.Numbers.{bit, number}
 use Rattle.svr_gate.specs.Gates.{table_value}
 use Rattle.svr_gate.specs.Keys.{all_below}
-use Rattle.svr_gate.specs.Covers.{cube_inputs, cube_clause, rows_upto, is_like, is_in, is_right_at, is_cover, clause_count, Defines}
+use Rattle.svr_gate.specs.Covers.{cube_inputs, cube_clause, rows_upto, is_like, is_in, is_right_at, is_cover, clause_count, has_lone_row, Defines}
 use Rattle.svr_gate.proofs.NumberLemmas.{number-cons, number-lt, bit-le, lit_value-flip}
 use Rattle.svr_gate.proofs.BitLemmas.{all_below-at}
 
@@ -307,8 +307,8 @@ cube_made table ins done i row mask out c h k =
 
 -- a table takes a clause at least
 pub clause_count-pos : (k table : ℕ) → 1 ≤ clause_count k table
-clause_count-pos k table = by_test (eqb k 2 && eqb table 0x8) (eqb k 2 && eqb table 0xe) (eqb k 3 && eqb table 0xe8) (eqb k 3 && eqb table 0xd8) where
-  by_test : (p q r s : Bool) → 1 ≤ unwrap_or (cond p (Some 3) (cond q (Some 3) (cond r (Some 6) (cond s (Some 4) None)))) (2 ^ k)
+clause_count-pos k table = by_test (eqb k 2 && has_lone_row table) (eqb k 3 && eqb table 0x82) (eqb k 3 && eqb table 0xe8) (eqb k 3 && eqb table 0xd8) where
+  by_test : (p q r s : Bool) → 1 ≤ unwrap_or (cond p (Some 3) (cond q (Some 5) (cond r (Some 6) (cond s (Some 4) None)))) (2 ^ k)
   by_test true q r s = omega arith
   by_test false true r s = omega arith
   by_test false false true s = omega arith

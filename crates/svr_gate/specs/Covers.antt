@@ -42,11 +42,16 @@ abbrev pub is_cover : ℕ → ℕ → List Cube → Bool
 is_cover k table cubes =
     list_all (λ c. nat_lt c.row 16) cubes && all_below (λ n. list_any (λ c. is_in k c n) cubes && list_all (is_right_at k table n) cubes) (2 ^ k)
 
--- how many clauses a table of k inputs takes where it is one that is known to need fewer than its rows: a conjunction, a disjunction, a carry, a choice
+-- a table of two inputs with one row whose value is its own: a conjunction or a disjunction of them or their negations
+abbrev pub has_lone_row : ℕ → Bool
+has_lone_row table =
+    table == 0x1 || table == 0x2 || table == 0x4 || table == 0x8 || table == 0x7 || table == 0xb || table == 0xd || table == 0xe
+
+-- how many clauses a table of k inputs takes where it is one that is known to need fewer than its rows: a conjunction, a disjunction, a carry, a choice, an agreement
 abbrev pub short_count : ℕ → ℕ → Option ℕ
 short_count k table =
-    if (k == 2 && table == 0x8) then Some 3 else
-    if (k == 2 && table == 0xe) then Some 3 else
+    if (k == 2 && has_lone_row table) then Some 3 else
+    if (k == 3 && table == 0x82) then Some 5 else
     if (k == 3 && table == 0xe8) then Some 6 else
     if (k == 3 && table == 0xd8) then Some 4 else None
 
