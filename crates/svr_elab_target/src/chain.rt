@@ -1,6 +1,6 @@
-// The blocks of a class by name, with those that it inherits (IEEE 1800-2017, 18.5.2): in one step where it extends no class or was the last one that was asked for, and else in the time that its own blocks and those of the classes above it take together.
+// The blocks of a class by name, with those that it inherits (IEEE 1800-2017, 18.5.2): in one step where it extends no class or its names are kept, and else in the time that its own blocks and those of the classes above it take together.
 
-ghost use Rattle.std.specs.Prelude.{◌≡◌, ◌<◌, ◌^◌, ◌++◌, Some, true, IfOk, IfSome, length, map, option_map, reverse};
+ghost use Rattle.std.specs.Prelude.{◌≡◌, ◌<◌, ◌^◌, ◌++◌, IfOk, IfSome, length, map, option_map, reverse};
 ghost use Rattle.svr_token.specs.Names.{names_of};
 ghost use Rattle.svr_elab_names.specs.Names as names_spec;
 ghost use Rattle.svr_elab_names.specs.Names.{Space};
@@ -10,7 +10,7 @@ ghost use Rattle.svr_elab_target.specs.Fits.{BlocksFit};
 ghost use Rattle.svr_elab_target.specs.Kept.{IsKept};
 
 use crate::list::and_listed;
-use indexmap::IndexSet;
+use indexmap::{IndexMap, IndexSet};
 use std::alloc::Global;
 use svr_elab_names::{ClassNames, NameSpace};
 use svr_typed::NoMemory;
@@ -117,11 +117,14 @@ fn place_among(names: &IndexSet<&[u8]>, name: &[u8]) -> Option<u32>
     }
 }
 
-/// The names of the blocks of one class in flat order, kept from one statement to the next.
+/// How many names are kept together, unless one class alone has more; each takes about 32 bytes.
+const MOST_KEPT: usize = 1 << 20;
+
+/// The names of the blocks of classes in flat order, by the class' number, kept from one statement to the next; and how many they are together.
 #[derive(Drop)]
 pub struct FlatNames<'a> {
-    class: Option<u32>,
-    names: IndexSet<&'a [u8]>,
+    kept: IndexMap<u32, IndexSet<&'a [u8]>>,
+    count: usize,
 }
 
 impl<'a> FlatNames<'a> {
@@ -129,43 +132,62 @@ impl<'a> FlatNames<'a> {
     pub fn new(alloc: Global) -> FlatNames<'a>
         ensures { (n : Space) → IsKept n result }
     {
-        FlatNames {
-            class: None,
-            names: IndexSet::new(alloc),
-        }
+        let kept = IndexMap::new(alloc);
+        FlatNames { kept, count: 0 }
     }
 }
 
-/// Whether it is this class that names are kept of.
-fn is_of(kept: Option<u32>, class: u32) -> bool
-    ensures { result ≡ true → kept ≡ Some class }
+/// The names of the blocks of a class, where they are kept.
+fn kept_names<'f, 'a>(flat: &'f FlatNames<'a>, class: u32) -> Option<&'f IndexSet<&'a [u8]>>
+    ensures { (n : Space) → IsKept n flat.now → IfSome result (λ s. map bytes_of s.now.keys ≡ spec.class_blocks n.classes class) }
 {
-    match kept {
-        None => false,
-        Some(other) => other == class,
+    flat.kept.get(&class)
+}
+
+/// Forgets all names where so many more would be too many.
+fn make_room<'a>(alloc: Global, more: usize, flat: &mut FlatNames<'a>)
+    ensures { (n : Space) → IsKept n flat.old → IsKept n flat.new }
+{
+    if flat.count > MOST_KEPT.saturating_sub(more) {
+        *flat = FlatNames::new(alloc);
     }
 }
 
-/// Keeps the names of the blocks of a class, in the place of another one's.
+/// Keeps the names of the blocks of one class more.
 fn keep<'a>(
     alloc: Global,
     class: u32,
-    names: &NameSpace<'_, 'a>,
+    made: IndexSet<&'a [u8]>,
     flat: &mut FlatNames<'a>,
 ) -> Result<(), NoMemory>
-    requires { IsKept (space_of names.now) flat.old }
-    ensures kept { IsKept (space_of names.now) flat.new }
-    ensures here { IfOk result (λ u. map bytes_of flat.new.names.keys ≡ spec.class_blocks (map class_of names.now.classes.now) class) }
+    ensures { (n : Space) → IsKept n flat.old → map bytes_of made.entry.keys ≡ spec.class_blocks n.classes class → IsKept n flat.new }
 {
-    if is_of(flat.class, class) {
-        return Ok(());
+    let more = made.len();
+    make_room(alloc, more, flat);
+    flat.count = flat.count.saturating_add(more);
+    match flat.kept.insert(class, made) {
+        Ok(_) => Ok(()),
+        Err(_) => Err(NoMemory),
     }
+}
+
+/// The place of the block of this name among those of a class whose names are not kept; from then on they are.
+fn block_made<'a>(
+    alloc: Global,
+    class: u32,
+    name: &[u8],
+    names: &NameSpace<'_, 'a>,
+    flat: &mut FlatNames<'a>,
+) -> Result<Option<u32>, NoMemory>
+    requires blocks { BlocksFit (space_of names.now) }
+    requires kept { IsKept (space_of names.now) flat.old }
+    ensures number { IfOk result (λ n. n ≡ spec.block_number (map class_of names.now.classes.now) class name.now) }
+    ensures kept { IsKept (space_of names.now) flat.new }
+{
     let made = flat_names(alloc, names.classes, class)?;
-    *flat = FlatNames {
-        class: Some(class),
-        names: made,
-    };
-    Ok(())
+    let place = place_among(&made, name);
+    keep(alloc, class, made, flat)?;
+    Ok(place)
 }
 
 /// The place of the block of this name among those of the class with what it inherits.
@@ -181,8 +203,10 @@ fn block_along<'a>(
     ensures number { IfOk result (λ n. n ≡ spec.block_number (map class_of names.now.classes.now) class name.now) }
     ensures kept { IsKept (space_of names.now) flat.new }
 {
-    keep(alloc, class, names, flat)?;
-    Ok(place_among(&flat.names, name))
+    match kept_names(flat, class) {
+        Some(kept) => Ok(place_among(kept, name)),
+        None => block_made(alloc, class, name, names, flat),
+    }
 }
 
 /// The place of the block of this class whose name stands at this token, among its blocks in flat order.

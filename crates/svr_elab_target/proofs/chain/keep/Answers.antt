@@ -1,9 +1,12 @@
-use Rattle.svr_elab_names.specs.Tables.{space_of}
-use Rattle.svr_elab_target.proofs.Kept.{kept_of}
+use Rattle.std.proofs.Common.{◌≡◌, map}
+use Rattle.svr_elab_names.specs.Tables.{bytes_of}
+use Rattle.svr_elab_target.specs.Blocks.{class_blocks}
+use Rattle.svr_elab_target.proofs.Kept.{of_more, of_same}
 use Rattle.svr_elab_target.proofs.chain.keep.Goals as goal
 
-pub returns-then-is_of-clause-here : goal.returns-then-is_of-clause-here
-returns-then-is_of-clause-here c = kept_of (space_of c.args.names.now) c.args.flat.now c.args.class c.requires (c.is_of.ensures c.if-is_of.true)
+pub returns-in-Ok : goal.returns-in-Ok
+returns-in-Ok c n h e =
+    record { here = λ q. of_more c.args.class q c.args.made _ _ (λ k s. map bytes_of s.keys ≡ class_blocks n.classes k) (c.in-Ok.ensures.updates.0 q) ((c.make_room.ensures n h).here q) e }
 
-pub returns-clause-kept : goal.returns-clause-kept
-returns-clause-kept c = record { here = c.in_ok-made.ensures }
+pub returns : goal.returns
+returns c n h e = record { here = λ q. of_same q c.make_room.new.flat.kept.entries _ _ c.in-Err.ensures.err ((c.make_room.ensures n h).here q) }
