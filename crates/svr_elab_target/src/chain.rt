@@ -1,13 +1,13 @@
 // The blocks of a class by name, with those that it inherits (IEEE 1800-2017, 18.5.2): in one step where it extends no class or its names are kept, and else in the time that its own blocks and those of the classes above it take together.
 
-ghost use Rattle.std.specs.Prelude.{◌≡◌, ◌<◌, ◌^◌, ◌++◌, IfOk, IfSome, length, map, option_map, reverse};
+ghost use Rattle.std.specs.Prelude.{◌≡◌, ◌<◌, ◌≤◌, ◌+◌, ◌^◌, ◌++◌, IfOk, IfSome, length, map, option_map, reverse};
 ghost use Rattle.svr_token.specs.Names.{names_of};
 ghost use Rattle.svr_elab_names.specs.Names as names_spec;
 ghost use Rattle.svr_elab_names.specs.Names.{Space};
 ghost use Rattle.svr_elab_names.specs.Tables.{space_of, class_of, bytes_of};
 ghost use Rattle.svr_elab_target.specs.Blocks as spec;
 ghost use Rattle.svr_elab_target.specs.Fits.{BlocksFit};
-ghost use Rattle.svr_elab_target.specs.Kept.{IsKept};
+ghost use Rattle.svr_elab_target.specs.Kept.{IsKept, HasRoom};
 
 use crate::list::and_listed;
 use indexmap::{IndexMap, IndexSet};
@@ -117,8 +117,8 @@ fn place_among(names: &IndexSet<&[u8]>, name: &[u8]) -> Option<u32>
     }
 }
 
-/// How many names are kept together, unless one class alone has more; each takes about 32 bytes.
-const MOST_KEPT: usize = 1 << 20;
+/// How many names of several classes are kept together; each takes about 32 bytes.
+pub const MOST_KEPT: usize = 1 << 20;
 
 /// The names of the blocks of classes in flat order, by the class' number, kept from one statement to the next; and how many they are together.
 #[derive(Drop)]
@@ -144,27 +144,36 @@ fn kept_names<'f, 'a>(flat: &'f FlatNames<'a>, class: u32) -> Option<&'f IndexSe
     flat.kept.get(&class)
 }
 
-/// Forgets all names where so many more would be too many.
-fn make_room<'a>(alloc: Global, more: usize, flat: &mut FlatNames<'a>)
-    ensures { (n : Space) → IsKept n flat.old → IsKept n flat.new }
+/// So many names and so many more, where they are not too many together.
+fn all_kept(count: usize, more: usize) -> Option<usize>
+    ensures { IfSome result (λ all. (count + more ≡ all) × (all ≤ MOST_KEPT)) }
 {
-    if flat.count > MOST_KEPT.saturating_sub(more) {
-        *flat = FlatNames::new(alloc);
+    match count.checked_add(more) {
+        Some(all) if all <= MOST_KEPT => Some(all),
+        Some(_) => None,
+        None => None,
+    }
+}
+
+/// Counts so many names more, and forgets the others where they are too many together.
+fn make_room(more: usize, flat: &mut FlatNames<'_>)
+    ensures kept { (n : Space) → IsKept n flat.old → IsKept n flat.new }
+    ensures room { (n : Space) → IsKept n flat.old → HasRoom more flat.new }
+{
+    match all_kept(flat.count, more) {
+        Some(all) => flat.count = all,
+        None => {
+            flat.kept.clear();
+            flat.count = more;
+        }
     }
 }
 
 /// Keeps the names of the blocks of one class more.
-fn keep<'a>(
-    alloc: Global,
-    class: u32,
-    made: IndexSet<&'a [u8]>,
-    flat: &mut FlatNames<'a>,
-) -> Result<(), NoMemory>
+fn keep<'a>(class: u32, made: IndexSet<&'a [u8]>, flat: &mut FlatNames<'a>) -> Result<(), NoMemory>
     ensures { (n : Space) → IsKept n flat.old → map bytes_of made.entry.keys ≡ spec.class_blocks n.classes class → IsKept n flat.new }
 {
-    let more = made.len();
-    make_room(alloc, more, flat);
-    flat.count = flat.count.saturating_add(more);
+    make_room(made.len(), flat);
     match flat.kept.insert(class, made) {
         Ok(_) => Ok(()),
         Err(_) => Err(NoMemory),
@@ -186,7 +195,7 @@ fn block_made<'a>(
 {
     let made = flat_names(alloc, names.classes, class)?;
     let place = place_among(&made, name);
-    keep(alloc, class, made, flat)?;
+    keep(class, made, flat)?;
     Ok(place)
 }
 

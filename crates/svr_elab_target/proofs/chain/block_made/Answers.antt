@@ -12,3 +12,6 @@ returns-clause-number c = place_is (map class_of c.args.names.now.classes.now) c
 
 pub returns-clause-kept : goal.returns-clause-kept
 returns-clause-kept c = c.keep.ensures (space_of c.args.names.now) c.requires.kept c.in_ok-made.ensures
+
+pub returns-in_err-keep-clause-kept : goal.returns-in_err-keep-clause-kept
+returns-in_err-keep-clause-kept c = c.keep.ensures (space_of c.args.names.now) c.requires.kept c.in_ok-made.ensures
