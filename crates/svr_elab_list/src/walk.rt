@@ -137,7 +137,7 @@ fn empty(alloc: Global) -> StmtPart
     }
 }
 
-/// What is known of a statement, with its first refusal. `names`: what names stand for; `made`: the object variables that have an object before it, and again behind it; `flat`: what is kept of the blocks of one class.
+/// What is known of a statement, with its first refusal. `names`: what names stand for; `made`: the object variables that have an object before it, and again behind it; `flat`: what is kept of the blocks of classes.
 #[cycle(stmt)]
 pub fn stmt<'a>(
     alloc: Global,
