@@ -10,7 +10,7 @@ whose items they always meet; switched_off.sv has 10,000 calls of a class whose 
 conflicts.sv has one call of a class of 200 items, of which three contradict each other.
 
 Of runs, small scripts of the kinds that users write: packets.sv, ascending.sv, defaults.sv, grid.sv, quotients.sv,
-ranges.sv. Of variety, 1,000 calls each on an object with few solutions: VARIETY says how many.
+ranges.sv, addresses.sv, even.sv, squares.sv, factors.sv. Of variety, 1,000 calls each on an object with few solutions: VARIETY says how many.
 
 usage: scripts.py FOLDER
 """
@@ -174,6 +174,30 @@ def ranges():
     return run_of(body, 10)
 
 
+def addresses():
+    """10 addresses of 2,000 that are scattered over 32 bits."""
+    members = ", ".join(f"32'd{2654435761 * k % 2**32}" for k in range(1, 2001))
+    return run_of(f"class C;\nrand bit [31:0] address;\nconstraint listed {{ address inside {{{members}}}; }}\nendclass\n", 10)
+
+
+def even():
+    """20 numbers of 16 bits out of a list of the 1,500 lowest even ones."""
+    members = ", ".join(str(2 * k) for k in range(1500))
+    return run_of(f"class C;\nrand bit [15:0] x;\nconstraint listed {{ x inside {{{members}}}; }}\nendclass\n", 20)
+
+
+def squares():
+    """5 triples of squares, one of which is the sum of the others."""
+    body = "class C;\nrand bit [11:0] x, y, z;\nconstraint right { x * x + y * y + 24'd0 == z * z; }\n"
+    return run_of(body + "constraint rising { x > 0; y > x; z > y; }\nendclass\n", 5)
+
+
+def factors():
+    """5 pairs of factors of a million."""
+    body = "class C;\nrand bit [15:0] a, b;\nrand bit [31:0] product;\n"
+    return run_of(body + "constraint c { product == a * b; product == 32'd1000000; a > 1; b > 1; }\nendclass\n", 5)
+
+
 def varied(props, item):
     """1,000 calls of a class with these properties and this item."""
     return run_of(f"class C;\n{props}constraint c {{ {item} }}\nendclass\n", 1000)
@@ -186,6 +210,10 @@ RUNS = {
     "grid": grid,
     "quotients": quotients,
     "ranges": ranges,
+    "addresses": addresses,
+    "even": even,
+    "squares": squares,
+    "factors": factors,
 }
 
 # Each with its properties, its item and how many solutions it has.
