@@ -2,16 +2,16 @@
 use Rattle.std.proofs.Common.{◌≡◌, ℕ, ◌+◌, ◌-◌, ◌*◌, ◌/◌, ◌%◌, ◌^◌, ◌<◌, ◌≤◌, Bool, true, false, cond, not, ◌&&◌, leb, eqb, List, [], ◌∷◌, ◌++◌, length, take, drop, get_or, refl, sym, ◌∙◌, ap, subst, arith, ⊎_elim}
 use Rattle.std.proofs.lemmas.Bool.{cases_lt, cases_eq, le-leb, lt-leb, eq-eqb, ne_eqb}
 use Rattle.std.proofs.lemmas.Nat.{div-mul-add, mod-mul-add, mod_low, mod_below}
-use Rattle.std.proofs.lemmas.List.{drop_more, drop_all, length_push, get_or_push, get_or_append_left}
+use Rattle.std.proofs.lemmas.List.{length-take-le, drop_more, drop_all, length_push, get_or_push, get_or_append_left}
 use Rattle.std.proofs.lemmas.List.Elements.{All-cons, All-nil}
 use Rattle.std.proofs.Math.Nat.{mod-add-div, mod-eq_of_lt, div-eq_of_lt}
 use Rattle.svr_chain.specs.declared.clause.Lit.{Lit}
-use Rattle.svr_chain.specs.Clauses.{IsWithin, flip}
-use Rattle.svr_chain.specs.Valuations.{lit_value}
+use Rattle.svr_chain.specs.Clauses.{AreWithin, IsWithin, flip}
+use Rattle.svr_chain.specs.Valuations.{lit_value, Meets}
 use Rattle.svr_gate.specs.Numbers.{bit, number}
 use Rattle.svr_gate.specs.Gates.{table_value}
 use Rattle.svr_gate.specs.Circuit.{Circuit, Extends, Tells, GivesNumber}
-use Rattle.svr_gate.proofs.NumberLemmas.{number-cons, number-nil, number-lt, number_parts, bit-le, lit_value-flip}
+use Rattle.svr_gate.proofs.NumberLemmas.{number-append, number-take, number-cons, number-nil, number-lt, number_parts, bit-le, lit_value-flip}
 use Rattle.svr_gate.proofs.Circuits.{AreWithin-later, Tells-later, Tells-same}
 use Rattle.svr_gate.proofs.Vectors.{GivesNumber-take, GivesNumber-same}
 use Rattle.svr_gate.proofs.TableLemmas.{Tells-both}
@@ -107,6 +107,45 @@ divides_none c x y = record {
   value = λ a m some.
       let e : number a (drop (length x - 0) x) ≡ 0 = ap (number a) (drop_all (length x - 0) x (omega arith)) ∙ number-nil a in
       (number-nil a ∙ sym (ap (λ n. n / number a y) e ∙ div-eq_of_lt some), number-nil a ∙ sym (ap (λ n. n % number a y) e ∙ mod-eq_of_lt some));
+}
+
+-- literals that are false above a place
+pub zero_more : (a : ℕ → Bool) (y : List Lit) (j : ℕ) (d : Lit) → j < length y → number a (drop (j + 1) y) ≡ 0 → lit_value a (get_or y j d) ≡ false → number a (drop j y) ≡ 0
+zero_more a y j d h z f =
+    ap (number a) (drop_more y j d h) ∙ number-cons a (get_or y j d) (drop (j + 1) y)
+    ∙ ap (λ (b : Bool). bit b + 2 * number a (drop (j + 1) y)) f
+    ∙ ap (λ k. 0 + 2 * k) z
+
+pub zeros_above : (a : ℕ → Bool) (y : List Lit) (bits : ℕ) → bits ≤ length y → number a (drop bits y) ≡ 0 → number a y < 2 ^ bits
+zeros_above a y bits h z =
+    let e : number a (take bits y) ≡ number a y = omega (arith, number_parts a bits y h, ap (λ j. 2 ^ bits * j) z) in
+    let s : number a (take bits y) < 2 ^ bits = subst (λ (k : ℕ). number a (take bits y) < 2 ^ k) (length-take-le bits y h) (number-lt a (take bits y)) in
+    subst (λ (k : ℕ). k < 2 ^ bits) e s
+
+-- the low bits of a number that takes no more, and zeros
+pub short_value : {c : Circuit} (a : ℕ → Bool) (x zs : List Lit) (bits n : ℕ) → Meets a c.clauses → GivesNumber c zs n (λ a. 0) → bits ≤ length x → number a x < 2 ^ bits
+    → number a (take bits x ++ zs) ≡ number a x
+short_value {c} a x zs bits n m g h s =
+    let z : number a (take bits x ++ zs) ≡ number a (take bits x) = omega (arith, number-append a (take bits x) zs, ap (λ k. 2 ^ length (take bits x) * k) (g.value a m)) in
+    z ∙ number-take a bits x h ∙ mod-eq_of_lt s
+
+-- a rest takes no more bits than the divisor
+pub divides_short : {c d : Circuit} {q left rest : List Lit} {w : ℕ} {m n : (ℕ → Bool) → ℕ} (bits : ℕ) → Extends c d → Divides c q left w m n
+    → ((a : ℕ → Bool) → Meets a c.clauses → n a < 2 ^ bits)
+    → AreWithin d.vars rest → length rest ≡ length left
+    → ((a : ℕ → Bool) → Meets a d.clauses → number a left < 2 ^ bits → number a rest ≡ number a left)
+    → Divides d q rest w m n
+divides_short {c} {d} {q} {left} {rest} {w} {m} {n} bits e v s within len value = record {
+  quotient_within = AreWithin-later {c = c} {d = d} q e v.quotient_within;
+  quotient_len = v.quotient_len;
+  rest_within = within;
+  rest_len = len ∙ v.rest_len;
+  value = λ a h some.
+      let mc = e.keeps a h in
+      let old = v.value a mc some in
+      let below : m a % n a < n a = mod_below (m a) (n a) some in
+      let small : m a % n a < 2 ^ bits = omega (arith, below, s a mc) in
+      (old.0, value a h (subst (λ (k : ℕ). k < 2 ^ bits) (sym old.1) small) ∙ old.1);
 }
 
 bit-cond : (b : Bool) → bit b ≡ cond b 1 0

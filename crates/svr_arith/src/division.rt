@@ -1,14 +1,14 @@
 //! Division without signs, by restoring.
 
-ghost use Rattle.std.specs.Prelude.{◌≡◌, ◌==◌, ◌-◌, ◌+◌, ◌&&◌, length, nat_le, not, false, IfOk, if◌then◌else◌};
+ghost use Rattle.std.specs.Prelude.{◌≡◌, ◌==◌, ◌-◌, ◌+◌, ◌^◌, ◌<◌, ◌&&◌, ℕ, Bool, length, nat_le, not, true, false, IfOk, if◌then◌else◌};
 ghost use Rattle.svr_chain.specs.Clauses.{IsWithin, AreWithin};
-ghost use Rattle.svr_chain.specs.Valuations.{lit_value};
+ghost use Rattle.svr_chain.specs.Valuations.{lit_value, Meets};
 ghost use Rattle.svr_gate.specs.Numbers.{number};
 ghost use Rattle.svr_gate.specs.Circuit.{Extends, Tells, GivesNumber};
 ghost use Rattle.svr_num.specs.Num.{div_of, rem_of};
 ghost use Rattle.svr_arith.specs.Division.{TellHighZeros, Divides};
 
-use crate::adder::difference;
+use crate::adder::{difference, zeros};
 use crate::memory::NoMemory;
 use crate::product::masked;
 use std::alloc::Global;
@@ -42,6 +42,49 @@ fn high_zeros(alloc: Global, b: &mut Builder, y: &[Lit]) -> Result<Vec<Lit>, NoM
     Ok(zeros)
 }
 
+/// Whether a literal is known to be false.
+fn is_never(b: &Builder, lit: Lit) -> bool
+    requires { IsWithin b.now.vars lit }
+    ensures { result ≡ true → Tells b.now lit (λ _. false) }
+{
+    match b.known(lit) {
+        Some(value) => !value,
+        None => false,
+    }
+}
+
+/// How many bits a number takes at most: all of its literals behind so many are known to be false.
+fn known_bits(b: &Builder, y: &[Lit]) -> usize
+    requires { AreWithin b.now.vars y.now }
+    ensures { (a : ℕ → Bool) → Meets a b.now.clauses → number a y.now < 2 ^ result }
+{
+    let mut bits = y.len();
+    'zeros: while bits > 0 {
+        if !is_never(b, y[bits - 1]) {
+            return bits;
+        }
+        bits -= 1;
+    }
+    bits
+}
+
+/// The same number, where it takes no more than so many bits: the literals behind them are known to be false.
+fn shortened(alloc: Global, b: &mut Builder, x: &[Lit], bits: usize) -> Result<Vec<Lit>, NoMemory>
+    requires { AreWithin b.old.vars x.now }
+    ensures extends { Extends b.old b.new }
+    ensures within { IfOk result (λ v. AreWithin b.new.vars v.items) }
+    ensures len { IfOk result (λ v. length v.items ≡ length x.now) }
+    ensures value { IfOk result (λ v. (a : ℕ → Bool) → Meets a b.new.clauses → number a x.now < 2 ^ bits → number a v.items ≡ number a x.now) }
+{
+    if x.len() <= bits {
+        return Ok(Vec::from_slice(alloc, x)?);
+    }
+    let zeros = zeros(alloc, b, x.len() - bits)?;
+    let mut short = Vec::from_slice(alloc, &x[..bits])?;
+    short.extend_from_slice(&zeros)?;
+    Ok(short)
+}
+
 /// One step of a long division: whether `y` goes into `rest`, and what is left then. `fits` says
 /// that the divisor has no higher bits than those of `y`.
 fn step(
@@ -68,7 +111,7 @@ fn step(
 }
 
 /// The long division without signs, from the highest bit of `x` down: after i bits the rest
-/// stands in i bits.
+/// stands in i bits, and in no more than the divisor is known to take.
 fn divide(alloc: Global, b: &mut Builder, x: &[Lit], y: &[Lit]) -> Result<Division, NoMemory>
     requires len { length x.now ≡ length y.now }
     requires x_within { AreWithin b.old.vars x.now }
@@ -78,6 +121,7 @@ fn divide(alloc: Global, b: &mut Builder, x: &[Lit], y: &[Lit]) -> Result<Divisi
     ensures divides { IfOk result (λ d. Divides b.new d.quotient.items d.rest.items (length x.now) (λ a. number a x.now) (λ a. number a y.now)) }
 {
     let zeros = high_zeros(alloc, b, y)?;
+    let bits = known_bits(b, y);
     let mut quotient = Vec::new(alloc);
     let mut rest = Vec::new(alloc);
     for i in 0..x.len() {
@@ -85,7 +129,7 @@ fn divide(alloc: Global, b: &mut Builder, x: &[Lit], y: &[Lit]) -> Result<Divisi
         rest.insert(0, x[place])?;
         let (goes, left) = step(alloc, b, &rest, &y[..i + 1], zeros[place])?;
         quotient.insert(0, goes)?;
-        rest = left;
+        rest = shortened(alloc, b, &left, bits)?;
     }
     let is_defined = zeros[y.len()].flipped();
     Ok(Division {

@@ -5,9 +5,24 @@ use Rattle.svr_chain.specs.Valuations.{lit_value}
 use Rattle.svr_gate.specs.Numbers.{bit, number}
 use Rattle.svr_gate.specs.Gates.{table_value}
 use Rattle.svr_gate.specs.Circuit.{Circuit, Extends, Tells, GivesNumber}
-use Rattle.svr_gate.proofs.NumberLemmas.{number_more, number-nil}
+use Rattle.svr_gate.proofs.NumberLemmas.{number_more, number-nil, number-three}
 use Rattle.svr_gate.proofs.Vectors.{GivesNumber-push, GivesNumber-same, GivesNumber-nil}
-use Rattle.svr_gate.proofs.TableLemmas.{Tells-choice}
+use Rattle.svr_gate.proofs.TableLemmas.{Tells-choice, choice_value}
+use Rattle.svr_chain.specs.Clauses.{IsWithin}
+
+-- a choice between a literal and itself
+pub one_chosen : (c : Circuit) (t x y : Lit) → x ≡ y → IsWithin c.vars x → Tells c x (λ a. table_value 0xd8 (number a (t ∷ x ∷ y ∷ [])))
+one_chosen c t x y e w = record {
+  within = w;
+  value = λ a m.
+      sym (ap (table_value 0xd8) (number-three a t x y)
+      ∙ choice_value (lit_value a t) (lit_value a x) (lit_value a y)
+      ∙ ap (λ (l : Lit). cond (lit_value a t) (lit_value a x) (lit_value a l)) (sym e)
+      ∙ either (lit_value a t) (lit_value a x));
+} where
+  either : (b v : Bool) → cond b v v ≡ v
+  either true v = refl
+  either false v = refl
 
 chosen_more : (t p q : Bool) (m n m' n' k : ℕ) → m' ≡ m + k * bit p → n' ≡ n + k * bit q → cond t m n + k * bit (cond t p q) ≡ cond t m' n'
 chosen_more true p q m n m' n' k e f = sym e

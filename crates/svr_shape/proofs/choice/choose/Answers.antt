@@ -15,7 +15,7 @@ pub loop-i-preserved : goal.loop-i-preserved
 loop-i-preserved c = record {
   extends = search later;
   value = rw c.push_reserved.ensures.items
-      (choose_step c.loop-i.b c.define.new.self c.args.test c.args.x.now c.args.y.now c.loop-i.chosen.items c.in_ok-bit.bit (record { var = 0; neg = false }) c.loop-i.i c.define.ensures.extends (omega arith) (omega arith) c.loop-i.invariant.value c.in_ok-bit.ensures.value);
+      (choose_step c.loop-i.b c.choose_bit.new.b c.args.test c.args.x.now c.args.y.now c.loop-i.chosen.items c.in_ok-bit.bit (record { var = 0; neg = false }) c.loop-i.i c.choose_bit.ensures.extends (omega arith) (omega arith) c.loop-i.invariant.value c.in_ok-bit.ensures.value);
   len = omega (arith, c.push_reserved.ensures.len, c.loop-i.invariant.len);
   room = omega (arith, c.push_reserved.ensures.capacity, c.loop-i.invariant.room);
 }
@@ -31,15 +31,15 @@ loop-i-init c = record {
 pub bounds-y-i : goal.bounds-y-i
 bounds-y-i c = omega (arith, c.requires.len, c.loop-i-test.true)
 
-pub define-requires : goal.define-requires
-define-requires c =
+pub choose_bit-requires : goal.choose_bit-requires
+choose_bit-requires c =
     let d : Lit = record { var = 0; neg = false } in
     let x = get_or c.args.x.now c.loop-i.i d in
     let y = get_or c.args.y.now c.loop-i.i d in
     let e = c.loop-i.invariant.extends in
     let w = AreWithin-three c.args.test x y (IsWithin-later c.args.test e c.requires.test_within)
     (IsWithin-later x e (c.requires.x_within c.loop-i.i d (omega arith)))
-    (IsWithin-later y e (c.requires.y_within c.loop-i.i d (omega (arith, c.requires.len)))) in (omega arith, (omega arith, w))
+    (IsWithin-later y e (c.requires.y_within c.loop-i.i d (omega (arith, c.requires.len)))) in w
 
 pub push_reserved-requires : goal.push_reserved-requires
 push_reserved-requires c = omega (arith, c.loop-i.invariant.len, c.loop-i.invariant.room, c.loop-i-test.true)
