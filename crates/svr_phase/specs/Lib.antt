@@ -4,4 +4,5 @@ pub mod Spent
 pub mod Proof
 pub mod Ends
 pub mod Chosen
+pub mod Assumed
 pub mod Examples

@@ -3,11 +3,13 @@
 //! What crates above cite: the words of `specs/` (`Cyclic`, `Sizes`: what may be chosen; `Chosen`: values of all cyclic properties; `Spent`, `Proof`: what an answer carries; `Ends`: how a phase is reached and how it ends) and the lemma files `proofs/Fitting.antt` (assignments are within the bits), `proofs/Refutes.antt` (what a proof shows), `proofs/Allowed.antt` (the sizes of a call fit its frame, and are within the cap), `proofs/Preferred.antt` (preferred values with the chosen ones are an assignment), `proofs/Chosen.antt` and `proofs/ChosenValues.antt` (chosen values are of their domains, and what bits that spell them read as), `proofs/KeptItems.antt` (items that are kept).
 #![tactic(auto)]
 
+mod assumed;
 mod choice;
 mod laws;
 mod options;
 mod proof;
 
+pub use assumed::{Assumed, Pieces};
 pub use choice::Choice;
 pub use laws::{
     a_proof_refutes_all_assignments, choices_are_as_worked_out, chosen_values_are_not_used,

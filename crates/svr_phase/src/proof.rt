@@ -1,7 +1,8 @@
 // Proofs that an answer carries.
 
+use crate::assumed::Assumed;
 use sqlite_items::Items;
-use svr_chain::{Lit, Refutation};
+use svr_chain::Refutation;
 
 /// What a proof refutes: the hard items; the hard items of the sizes; a value of a cyclic property, of its whole domain or of those that were unused before a new cycle; the soft item of a rank.
 #[derive(Clone, Copy)]
@@ -17,7 +18,7 @@ pub enum ProofReason {
 #[derive(Drop)]
 pub struct Proof {
     pub encoding: u32,
-    pub assume: Items<Lit>,
+    pub assume: Assumed,
     pub refutation: Refutation,
     pub reason: ProofReason,
 }
