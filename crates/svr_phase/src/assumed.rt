@@ -30,7 +30,6 @@ enum Parts {
 }
 
 /// The literals that a proof assumes, which contracts see as one list. What other proofs assume as well is held once for all of them.
-#[derive(Drop)]
 pub struct Assumed {
     parts: Parts,
 }
@@ -43,6 +42,14 @@ impl Model for Assumed {
     ghost Value = { List Lit };
 
     ghost view = { λ a. lits_of a.parts };
+}
+
+// Written out, so that it is one call wherever a proof is let go.
+impl Drop for Assumed {
+    fn drop(self) {
+        let Assumed { parts } = self;
+        drop(parts);
+    }
 }
 
 /// What a proof assumes, in three pieces.
