@@ -4,6 +4,7 @@ pub mod Rooted
 pub mod Kept
 pub mod Spellings
 pub mod Ranks
+pub mod Counted
 pub mod Bridge
 pub mod Fated
 pub mod Ended

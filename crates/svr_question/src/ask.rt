@@ -28,7 +28,7 @@ use svr_chain::{Cnf, Lit, Refutation};
 use svr_encoded::Encoded;
 use svr_eval::Assign;
 use svr_frame::Frame;
-use svr_phase::{Proof, ProofReason};
+use svr_phase::{Assumed, Proof, ProofReason};
 use svr_query::Solver;
 use svr_soft::{PassEnd, pass};
 
@@ -198,7 +198,7 @@ fn concluded(
         }
         PassEnd::BaseRefuted(refutation) => Ok(ValuesEnd::Refuted(Proof {
             encoding: place,
-            assume: Items::from_vec(base),
+            assume: Assumed::own(base),
             refutation,
             reason: ProofReason::Hard,
         })),

@@ -17,8 +17,8 @@ returns-in_ok-met-in-Done c =
 pub returns-in-BaseRefuted : goal.returns-in-BaseRefuted
 returns-in-BaseRefuted c =
     let log = c.in-BaseRefuted.refutation in
-    subst (λ (over : PassEnd). Becomes c.args.place c.args.base.items c.args.soft.now over (end.Refuted (record { encoding = c.args.place; assume = c.from_vec.result; refutation = log; reason = why.Hard }))) (sym c.in-BaseRefuted.is)
-    (λ i. end.Refuted (record { encoding = c.args.place; assume = c.from_vec.ensures i; refutation = log; reason = why.Hard }))
+    subst (λ (over : PassEnd). Becomes c.args.place c.args.base.items c.args.soft.now over (end.Refuted (record { encoding = c.args.place; assume = c.own.result; refutation = log; reason = why.Hard }))) (sym c.in-BaseRefuted.is)
+    (λ i. end.Refuted (record { encoding = c.args.place; assume = c.own.ensures i; refutation = log; reason = why.Hard }))
 
 pub returns-in-Spent : goal.returns-in-Spent
 returns-in-Spent c =
