@@ -162,7 +162,7 @@ pub still_has : (f : FrameTerm) (layout : Encoded) (s t : SolverView) → t.vars
 still_has f layout s t vars clauses bits h = record { cnf = h.cnf; vars = vars ∙ h.vars; clauses = clauses ∙ h.clauses; bits = bits ∙ h.bits; encodes = h.encodes }
 
 pub can_still : (a : Asking) (s t : SolverView) → t.vars ≡ s.vars → t.clauses ≡ s.clauses → t.bits ≡ s.bits → CanAsk a s → CanAsk a t
-can_still a s t vars clauses bits h = record { sound = h.sound; has = still_has (frame_term a.frame.now) a.layout.now s t vars clauses bits h.has; wishes = h.wishes ∙ sym vars; some = h.some }
+can_still a s t vars clauses bits h = record { sound = h.sound; has = still_has (frame_term a.frame.now) a.layout.now s t vars clauses bits h.has; shared = h.shared; wishes = h.wishes ∙ sym vars; some = h.some }
 
 -- the clauses are given back
 pub given_whole : (f : FrameTerm) (layout : Encoded) (s : SolverView) (has : HasClausesOf f layout s) (cnf : Cnf) → cnf.vars ≡ s.vars → cnf.clauses.items ≡ s.clauses → EncodesCyclic f (record layout { cnf = cnf })

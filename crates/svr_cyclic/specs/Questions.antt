@@ -1,6 +1,7 @@
 -- Questions of the phase of cyclic values: over what they are asked, and what they find
 use Rattle.std.specs.Prelude.{◌≡◌, ℕ, ◌+◌, ◌<◌, ◌≤◌, ◌^◌, List, [], ◌∷◌, ◌++◌, Some, map, length}
 use Rattle.std.specs.List.{All}
+use Rattle.std.specs.Rc.{rc_slice_items}
 use Rattle.svr_chain.specs.declared.clause.Lit.{Lit}
 use Rattle.svr_chain.specs.declared.clause.Cnf.{Cnf}
 use Rattle.svr_chain.specs.Views.{RefutationView}
@@ -53,6 +54,7 @@ pub record HasClausesOf (f : FrameTerm) (layout : Encoded) (s : SolverView) : Ty
 pub record CanAsk (a : Asking) (s : SolverView) : Type 0 where
   pub sound : IsSound (frame_term a.frame.now)
   pub has : HasClausesOf (frame_term a.frame.now) a.layout.now s
+  pub shared : rc_slice_items a.roots.now ≡ a.layout.now.roots.items
   pub wishes : length a.prefer.now ≡ s.vars
   pub some : 1 ≤ a.budget
 

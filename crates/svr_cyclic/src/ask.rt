@@ -1,6 +1,7 @@
 // One question: whether some literals fit behind those of the hard items and of the chosen values.
 
 ghost use Rattle.std.specs.Prelude.{◌≡◌, ◌≤◌, ◌++◌, false, drop, IfOk, OnOk};
+ghost use Rattle.std.specs.Rc.{rc_slice_items};
 ghost use Rattle.svr_chain.specs.Clauses.{AreWithin, is_tautology};
 ghost use Rattle.svr_phase.specs.Proof.{fixed_lits, spelling};
 ghost use Rattle.svr_query.specs.Answer.{IsAnswer};
@@ -9,17 +10,19 @@ ghost use Rattle.svr_cyclic.specs.Questions.{CanAsk, front_of};
 use crate::memory::NoMemory;
 use crate::row::spelled;
 use std::alloc::Global;
+use std::rc::RcSlice;
 use svr_chain::{Lit, Refutation};
 use svr_encoded::Encoded;
 use svr_frame::Frame;
-use svr_phase::Proof;
+use svr_phase::{Assumed, Proof};
 use svr_query::{Answer, Solver};
 
-/// What all questions of the phase are asked with: the frame, an encoding apart from its clauses, which the solver has, the values that the search tries first, and the budget in steps.
+/// What all questions of the phase are asked with: the frame, an encoding apart from its clauses, which the solver has, its roots once more for the proofs, which share them, the values that the search tries first, and the budget in steps.
 #[derive(Clone, Copy)]
 pub(crate) struct Asking<'a> {
     pub frame: &'a Frame,
     pub layout: &'a Encoded,
+    pub roots: &'a RcSlice<Lit>,
     pub prefer: &'a [bool],
     pub budget: u64,
 }
@@ -100,21 +103,35 @@ fn behind(lits: &[Lit], count: usize) -> &[Lit]
     }
 }
 
-/// The literals that a proof assumes: those of the chosen values, of the value that is refused, and of the hard items. `front` are those in front of each question.
-pub(crate) fn assumed(
+/// The literals of the chosen values, once for all proofs of a property. `front` are those in front of each question.
+pub(crate) fn chosen_once(
     alloc: Global,
     layout: &Encoded,
     sought: &Sought<'_>,
     front: &[Lit],
-    own: &[Lit],
-) -> Result<Vec<Lit>, NoMemory>
+) -> Result<RcSlice<Lit>, NoMemory>
     requires { front.now ≡ front_of layout.now sought.now.chosen.now }
-    ensures { IfOk result (λ ls. ls.items ≡ fixed_lits layout.now sought.now.chosen.now ++ own.now ++ layout.now.roots.items) }
+    ensures { IfOk result (λ ls. rc_slice_items ls ≡ fixed_lits layout.now sought.now.chosen.now) }
 {
     let roots = layout.roots.as_slice();
     let chosen = behind(front, roots.len());
-    let mut all = Vec::from_slice(alloc, chosen)?;
-    all.extend_from_slice(own)?;
-    all.extend_from_slice(roots)?;
-    Ok(all)
+    let once = RcSlice::from_slice(alloc, chosen)?;
+    Ok(once)
+}
+
+/// What a proof assumes: the literals of the chosen values, of the value that is refused, and of the hard items.
+pub(crate) fn assumed(
+    alloc: Global,
+    asking: &Asking<'_>,
+    sought: &Sought<'_>,
+    chosen: &RcSlice<Lit>,
+    own: &[Lit],
+) -> Result<Assumed, NoMemory>
+    requires roots { rc_slice_items asking.now.roots.now ≡ asking.now.layout.now.roots.items }
+    requires chosen { rc_slice_items chosen.now ≡ fixed_lits asking.now.layout.now sought.now.chosen.now }
+    ensures { IfOk result (λ ls. ls ≡ fixed_lits asking.now.layout.now sought.now.chosen.now ++ own.now ++ asking.now.layout.now.roots.items) }
+{
+    let own = Vec::from_slice(alloc, own)?;
+    let assume = Assumed::between(chosen, own, asking.roots)?;
+    Ok(assume)
 }

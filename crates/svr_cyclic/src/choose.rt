@@ -148,11 +148,12 @@ fn chosen_in_turn(alloc: Global, call: &Calling<'_>, props: &[u32]) -> Result<Cy
     let parts = taken_apart(alloc, call.frame, encoding)?;
     let Parted {
         layout,
+        roots,
         mut asker,
         prefer,
     } = parts;
     let wishes = prefer.as_slice();
-    let reached = choose_all(alloc, call, &layout, wishes, &mut asker, props)?;
+    let reached = choose_all(alloc, call, &layout, &roots, wishes, &mut asker, props)?;
     let Asker {
         solver,
         front: _front,

@@ -2,6 +2,7 @@
 
 ghost use Rattle.std.specs.Prelude.{◌≡◌, ◌<◌, ◌^◌, ℕ, [], ◌∷◌, ◌++◌, IfOk, IfSome, OnOk};
 ghost use Rattle.std.specs.List.{All};
+ghost use Rattle.std.specs.Rc.{rc_slice_items};
 ghost use Rattle.svr_query.specs.declared.solver.Answer.TheVariants as answer;
 ghost use Rattle.svr_phase.specs.declared.proof.ProofReason.{ProofReason};
 ghost use Rattle.svr_phase.specs.Proof.{fixed_lits};
@@ -10,14 +11,14 @@ ghost use Rattle.svr_cyclic.specs.Questions.{AreInFront, CanAsk, IsSought, IsTri
 ghost use Rattle.svr_cyclic.specs.Denials.{AreDenied};
 ghost use Rattle.svr_cyclic.specs.Values.{IsFit, IsLooked, reason_of};
 
-use crate::ask::{Asker, Asking, Sought, Tried, ask_with, assumed};
+use crate::ask::{Asker, Asking, Sought, Tried, ask_with, assumed, chosen_once};
 use crate::memory::NoMemory;
 use crate::row::spelled;
 use crate::single::{Known, ask_each, copied, denied_among, is_denied};
 use sqlite_items::Items;
 use std::alloc::Global;
+use std::rc::RcSlice;
 use svr_chain::{Lit, Refutation};
-use svr_encoded::Encoded;
 use svr_phase::{Proof, ProofReason};
 use svr_query::Answer;
 
@@ -60,23 +61,24 @@ fn reason(among: Among, prop: u32, value: u64) -> ProofReason
     }
 }
 
-/// Refuses a value by a refutation of its literals behind those in front.
+/// Refuses a value by a refutation of its literals behind those in front. `chosen` are the literals of the chosen values.
 fn refused(
     alloc: Global,
-    layout: &Encoded,
+    asking: &Asking<'_>,
     sought: &Sought<'_>,
-    front: &[Lit],
+    chosen: &RcSlice<Lit>,
     own: &[Lit],
     refutation: Refutation,
     reason: ProofReason,
 ) -> Result<Tried, NoMemory>
-    requires { front.now ≡ front_of layout.now sought.now.chosen.now }
-    ensures { IfOk result (λ t. t ≡ tried_of (answer.Refuted refutation) (fixed_lits layout.now sought.now.chosen.now ++ own.now ++ layout.now.roots.items) reason) }
+    requires roots { rc_slice_items asking.now.roots.now ≡ asking.now.layout.now.roots.items }
+    requires chosen { rc_slice_items chosen.now ≡ fixed_lits asking.now.layout.now sought.now.chosen.now }
+    ensures { IfOk result (λ t. t ≡ tried_of (answer.Refuted refutation) (fixed_lits asking.now.layout.now sought.now.chosen.now ++ own.now ++ asking.now.layout.now.roots.items) reason) }
 {
-    let assume = assumed(alloc, layout, sought, front, own)?;
+    let assume = assumed(alloc, asking, sought, chosen, own)?;
     Ok(Tried::Refused(Proof {
         encoding: 0,
-        assume: Items::from_vec(assume),
+        assume,
         refutation,
         reason,
     }))
@@ -85,18 +87,19 @@ fn refused(
 /// The same by a copy of the refutation.
 fn refused_by_copy(
     alloc: Global,
-    layout: &Encoded,
+    asking: &Asking<'_>,
     sought: &Sought<'_>,
-    front: &[Lit],
+    chosen: &RcSlice<Lit>,
     own: &[Lit],
     refutation: &Refutation,
     reason: ProofReason,
 ) -> Result<Tried, NoMemory>
-    requires { front.now ≡ front_of layout.now sought.now.chosen.now }
-    ensures { IfOk result (λ t. t ≡ tried_of (answer.Refuted refutation.now) (fixed_lits layout.now sought.now.chosen.now ++ own.now ++ layout.now.roots.items) reason) }
+    requires roots { rc_slice_items asking.now.roots.now ≡ asking.now.layout.now.roots.items }
+    requires chosen { rc_slice_items chosen.now ≡ fixed_lits asking.now.layout.now sought.now.chosen.now }
+    ensures { IfOk result (λ t. t ≡ tried_of (answer.Refuted refutation.now) (fixed_lits asking.now.layout.now sought.now.chosen.now ++ own.now ++ asking.now.layout.now.roots.items) reason) }
 {
     let copy = copied(alloc, refutation)?;
-    refused(alloc, layout, sought, front, own, copy, reason)
+    refused(alloc, asking, sought, chosen, own, copy, reason)
 }
 
 /// Tries a value. No question is asked where one of its literals is denied, and where the value is refused its literals are asked for one by one.
@@ -105,12 +108,14 @@ fn try_with(
     asking: &Asking<'_>,
     asker: &mut Asker,
     sought: &Sought<'_>,
+    chosen: &RcSlice<Lit>,
     known: &mut Known,
     value: u64,
     reason: ProofReason,
 ) -> Result<Tried, NoMemory>
     requires can { CanAsk asking.now asker.old.solver }
     requires sought { IsSought asking.now sought.now }
+    requires chosen { rc_slice_items chosen.now ≡ fixed_lits asking.now.layout.now sought.now.chosen.now }
     requires front { AreInFront asking.now sought.now.chosen.now asker.old.front.items }
     requires below { value < 2 ^ width_of (frame_term asking.now.frame.now) sought.now.prop }
     requires denied { AreDenied asking.now sought.now asker.old.solver.clauses known.old.denied.items }
@@ -123,16 +128,7 @@ fn try_with(
     let own = spelled(alloc, sought.row, value)?;
     let lits = own.as_slice();
     if let Some(refutation) = denied_among(known.denied.as_slice(), lits) {
-        let front = asker.front.as_slice();
-        return refused_by_copy(
-            alloc,
-            asking.layout,
-            sought,
-            front,
-            lits,
-            refutation,
-            reason,
-        );
+        return refused_by_copy(alloc, asking, sought, chosen, lits, refutation, reason);
     }
     let answer = ask_with(asking, asker, lits, asking.budget)?;
     match answer {
@@ -143,16 +139,7 @@ fn try_with(
         Answer::Spent { log, first } => Ok(Tried::Spent { log, first }),
         Answer::Refuted(refutation) => {
             ask_each(asking, asker, sought, lits, known)?;
-            let front = asker.front.as_slice();
-            refused(
-                alloc,
-                asking.layout,
-                sought,
-                front,
-                lits,
-                refutation,
-                reason,
-            )
+            refused(alloc, asking, sought, chosen, lits, refutation, reason)
         }
     }
 }
@@ -247,10 +234,11 @@ fn none_fitting(
     ensures front { OnOk result (AreInFront asking.now sought.now.chosen.now asker.new.front.items) }
     ensures looked { IfOk result (IsLooked (over asking.now asker.old.solver.clauses) sought.now.chosen.now sought.now.prop (reason_of among sought.now.prop) values.now) }
 {
+    let chosen = chosen_once(alloc, asking.layout, sought, asker.front.as_slice())?;
     let mut proofs = Items::new(alloc);
     for value in values {
         let why = reason(among, sought.prop, *value);
-        let tried = try_with(alloc, asking, asker, sought, known, *value, why)?;
+        let tried = try_with(alloc, asking, asker, sought, &chosen, known, *value, why)?;
         match tried {
             Tried::Fits => return Ok(Looked::Found(*value)),
             Tried::Refused(proof) => proofs.push(proof)?,

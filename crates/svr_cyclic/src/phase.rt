@@ -1,6 +1,7 @@
 // The properties one after the other.
 
 ghost use Rattle.std.specs.Prelude.{◌≡◌, ◌≤◌, [], ◌∷◌, ◌++◌, length, IfOk, OnOk};
+ghost use Rattle.std.specs.Rc.{rc_slice_items};
 ghost use Rattle.svr_frame.specs.Frame.{frame_term};
 ghost use Rattle.svr_frame.specs.Sound.{IsSound};
 ghost use Rattle.svr_phase.specs.Cyclic as spec;
@@ -15,7 +16,8 @@ use crate::row::row_at;
 use crate::used::inserted;
 use sqlite_items::Items;
 use std::alloc::Global;
-use svr_chain::Refutation;
+use std::rc::RcSlice;
+use svr_chain::{Lit, Refutation};
 use svr_draw::Draws;
 use svr_encoded::Encoded;
 use svr_frame::Frame;
@@ -106,6 +108,7 @@ pub(crate) fn choose_all(
     alloc: Global,
     call: &Calling<'_>,
     layout: &Encoded,
+    roots: &RcSlice<Lit>,
     prefer: &[bool],
     asker: &mut Asker,
     props: &[u32],
@@ -113,6 +116,7 @@ pub(crate) fn choose_all(
     requires sound { IsSound (frame_term call.now.frame.now) }
     requires budget { 1 ≤ call.now.opts.budget }
     requires has { HasClausesOf (frame_term call.now.frame.now) layout.now asker.old.solver }
+    requires roots { rc_slice_items roots.now ≡ layout.now.roots.items }
     requires front { asker.old.front.items ≡ layout.now.roots.items }
     requires prefer { length prefer.now ≡ asker.old.solver.vars }
     requires props { props.now ≡ cyclic_props (frame_term call.now.frame.now) }
@@ -123,6 +127,7 @@ pub(crate) fn choose_all(
     let asking = Asking {
         frame: call.frame,
         layout,
+        roots,
         prefer,
         budget: call.opts.budget,
     };

@@ -1,6 +1,7 @@
 // One encoding and one solver for all questions of the phase.
 
 ghost use Rattle.std.specs.Prelude.{◌≡◌, length, IfOk};
+ghost use Rattle.std.specs.Rc.{rc_slice_items};
 ghost use Rattle.svr_frame.specs.Frame.{frame_term};
 ghost use Rattle.svr_frame.specs.Sound.{IsSound};
 ghost use Rattle.svr_cyclic.specs.Questions.{EncodesCyclic, HasClausesOf};
@@ -8,7 +9,8 @@ ghost use Rattle.svr_cyclic.specs.Questions.{EncodesCyclic, HasClausesOf};
 use crate::ask::Asker;
 use crate::memory::NoMemory;
 use std::alloc::Global;
-use svr_chain::Cnf;
+use std::rc::RcSlice;
+use svr_chain::{Cnf, Lit};
 use svr_clauses::clauses_of;
 use svr_encoded::Encoded;
 use svr_expand::expand;
@@ -27,10 +29,11 @@ pub(crate) fn encoded(alloc: Global, frame: &Frame) -> Result<Encoded, NoMemory>
     Ok(encoding)
 }
 
-/// An encoding apart from its clauses, a solver that has these, with the literals of the hard items in front of its questions, and a wish for each of its variables.
+/// An encoding apart from its clauses, its roots once more, which proofs share, a solver that has the clauses, with the literals of the hard items in front of its questions, and a wish for each of its variables.
 #[derive(Drop)]
 pub(crate) struct Parted {
     pub layout: Encoded,
+    pub roots: RcSlice<Lit>,
     pub asker: Asker,
     pub prefer: Vec<bool>,
 }
@@ -43,6 +46,7 @@ pub(crate) fn taken_apart(
 ) -> Result<Parted, NoMemory>
     requires { EncodesCyclic (frame_term frame.now) encoding }
     ensures has { IfOk result (λ r. HasClausesOf (frame_term frame.now) r.layout r.asker.solver) }
+    ensures roots { IfOk result (λ r. rc_slice_items r.roots ≡ r.layout.roots.items) }
     ensures front { IfOk result (λ r. r.asker.front.items ≡ r.layout.roots.items) }
     ensures prefer { IfOk result (λ r. length r.prefer.items ≡ r.asker.solver.vars) }
 {
@@ -50,6 +54,7 @@ pub(crate) fn taken_apart(
     let bits_in_row = joined(alloc, rows)?;
     let prefer = vec![in alloc; false; encoding.cnf.vars as usize]?;
     let front = Vec::from_slice(alloc, encoding.roots.as_slice())?;
+    let shared = RcSlice::from_slice(alloc, encoding.roots.as_slice())?;
     let Encoded {
         items,
         slots,
@@ -71,6 +76,7 @@ pub(crate) fn taken_apart(
     let met = Vec::new(alloc);
     Ok(Parted {
         layout,
+        roots: shared,
         asker: Asker { solver, front, met },
         prefer,
     })

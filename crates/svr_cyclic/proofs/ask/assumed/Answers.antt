@@ -1,15 +1,5 @@
-use Rattle.std.proofs.Common.{◌≡◌, ◌++◌, ℕ, List, drop, length, sym, ap, ◌∙◌}
-use Rattle.std.proofs.lemmas.List.{drop_at}
-use Rattle.svr_chain.specs.declared.clause.Lit.{Lit}
-use Rattle.svr_phase.specs.Proof.{fixed_lits}
+use Rattle.std.proofs.Common.{◌++◌, ◌∙◌}
 use Rattle.svr_cyclic.proofs.ask.assumed.Goals as goal
 
 pub returns : goal.returns
-returns c =
-    let roots : List Lit = c.args.layout.now.roots.items in
-    let fixed : List Lit = fixed_lits c.args.layout.now c.args.sought.now.chosen.now in
-    let count : ℕ = length c.as_slice-roots.result.now in
-    let n : length roots ≡ count = ap (λ (ls : List Lit). length ls) (sym c.as_slice-roots.ensures.value) in
-    let chosen : c.behind-chosen.result.now ≡ fixed = c.behind-chosen.ensures ∙ ap (λ (ls : List Lit). drop count ls) c.requires ∙ drop_at roots fixed count n in
-    c.in_ok-extend_from_slice-2.ensures.items
-    ∙ (λ k. (c.in_ok-extend_from_slice.ensures.items ∙ ap (λ (ls : List Lit). ls ++ c.args.own.now) (c.in_ok-all.ensures.items ∙ chosen)) k ++ c.as_slice-roots.ensures.value k)
+returns c = c.in_ok-assume.ensures ∙ (λ i. c.requires.chosen i ++ c.in_ok-own.ensures.items i ++ c.requires.roots i)

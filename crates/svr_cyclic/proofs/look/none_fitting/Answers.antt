@@ -35,6 +35,9 @@ try_with-requires-clause-front c = c.loop-value.invariant.front
 pub try_with-requires-clause-sought : goal.try_with-requires-clause-sought
 try_with-requires-clause-sought c = c.requires.sought
 
+pub try_with-requires-clause-chosen : goal.try_with-requires-clause-chosen
+try_with-requires-clause-chosen c = c.in_ok-chosen.ensures
+
 pub try_with-requires-clause-below : goal.try_with-requires-clause-below
 try_with-requires-clause-below c =
     All-get_or (λ v. v < 2 ^ width_of (frame_term c.args.asking.now.frame.now) c.args.sought.now.prop) c.args.values.now c.loop-value.value-index 0 c.loop-value-test.true c.requires.below

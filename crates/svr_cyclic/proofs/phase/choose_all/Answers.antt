@@ -15,7 +15,7 @@ pub loop-prop-init : goal.loop-prop-init
 loop-prop-init c =
     let call = call_at c.args.call.now in
     record {
-      can = record { sound = c.requires.sound; has = c.requires.has; wishes = c.requires.prefer; some = c.requires.budget };
+      can = record { sound = c.requires.sound; has = c.requires.has; shared = c.requires.roots; wishes = c.requires.prefer; some = c.requires.budget };
       same = refl;
       front = c.requires.front ∙ sym (append-nil c.args.layout.now.roots.items) ∙ ap (λ (xs : List (ℕ × ℕ)). front_of c.args.layout.now xs) (sym c.new-progress.ensures.chosen);
       drawn = c.new-draws.ensures;
