@@ -1,8 +1,10 @@
 // One proof as a hinted derivation.
 
-ghost use Rattle.std.specs.Prelude.{◌∷◌, [], Some, codes, OnOk, OnErr};
+ghost use Rattle.std.specs.Prelude.{◌≡◌, ◌∷◌, [], Some, codes, unwrap_or, IfOk, OnOk, OnErr};
 ghost use Rattle.std.specs.List.{concat};
 ghost use Rattle.svr_frame.specs.Frame.{frame_term};
+ghost use Rattle.svr_lrat_made.specs.Made.{file_of};
+ghost use Rattle.svr_lrat_printed.specs.Text.{text_of};
 ghost use Rattle.svr_stream.specs.Puts.{Puts, place};
 ghost use Rattle.svr_script.specs.ProofText.{reason_text, unknowns_text};
 ghost use Rattle.svr_script.specs.Derived as spec;
@@ -39,6 +41,16 @@ fn put_between<K: Sink>(
     text.put(out, b"e\n");
 }
 
+/// The derivation of a proof over its encoding. What the proof assumes is written out for it.
+fn derivation_of(alloc: Global, encoding: &Encoded, proof: &Proof) -> Result<Vec<u8>, NoMemory>
+    requires { IsShownOver (Some encoding.now) proof.now }
+    ensures { IfOk result (λ t. t.items ≡ text_of (file_of encoding.now.cnf.vars encoding.now.cnf.clauses.items proof.now.assume proof.now.refutation.steps (unwrap_or proof.now.refutation.goal 0))) }
+{
+    let written = proof.assume.written(alloc)?;
+    let assume = written.as_slice();
+    to_lrat(alloc, &encoding.cnf, assume, &proof.refutation)
+}
+
 /// A proof over its encoding. Its derivation is made before anything of it is put.
 fn put_derivation_over<K: Sink>(
     alloc: Global,
@@ -54,8 +66,7 @@ fn put_derivation_over<K: Sink>(
     ensures front { OnErr result (PutsFront (place (K.written out.old) (K.faults out.old) text.old) (place (K.written out.new) (K.faults out.new) text.new)
         (spec.derived_over (frame_term frame.now) (Some encoding.now) proof.now)) }
 {
-    let assume = proof.assume.as_slice();
-    let derivation = to_lrat(alloc, &encoding.cnf, assume, &proof.refutation)?;
+    let derivation = derivation_of(alloc, encoding, proof)?;
     let lines = derivation.as_slice();
     put_between(text, out, frame, proof.reason, encoding, lines);
     Ok(())

@@ -336,7 +336,12 @@ fn put_assumed<K: Sink>(text: &mut Pending, out: &mut K, proof: &Proof)
     ensures { Puts (place (K.written out.old) (K.faults out.old) text.old) (place (K.written out.new) (K.faults out.new) text.new)
         (spec.lits_line (codes "a") proof.now.assume) }
 {
-    put_lits_line(text, out, b"a", proof.assume.as_slice());
+    let pieces = proof.assume.pieces();
+    text.put(out, b"a");
+    put_lits(text, out, pieces.front);
+    put_lits(text, out, pieces.middle);
+    put_lits(text, out, pieces.back);
+    text.put(out, b" 0\n");
 }
 
 /// A proof over its encoding.

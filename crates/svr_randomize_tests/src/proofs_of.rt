@@ -27,20 +27,26 @@ fn with(judged: Judged, accepted: bool) -> Judged {
     }
 }
 
+/// Whether the checker accepts the refutation of a proof over these clauses.
+fn is_refuted(alloc: Global, over: &Encoded, proof: &Proof) -> bool {
+    let assume = match proof.assume.written(alloc) {
+        Ok(assume) => assume,
+        Err(_) => return false,
+    };
+    match check(alloc, &over.cnf, assume.as_slice(), &proof.refutation) {
+        Ok(Verdict::Accepted) => true,
+        Ok(Verdict::Rejected { .. }) => false,
+        Err(_) => false,
+    }
+}
+
 /// Whether the checker accepts a proof over the clauses that it names.
 fn is_accepted(alloc: Global, encodings: &[Encoded], proof: &Proof) -> bool {
     if proof.refutation.goal.is_none() {
         return false;
     }
     match encodings.get(proof.encoding as usize) {
-        Some(over) => {
-            let assume = proof.assume.as_slice();
-            match check(alloc, &over.cnf, assume, &proof.refutation) {
-                Ok(Verdict::Accepted) => true,
-                Ok(Verdict::Rejected { .. }) => false,
-                Err(_) => false,
-            }
-        }
+        Some(over) => is_refuted(alloc, over, proof),
         None => false,
     }
 }

@@ -19,7 +19,6 @@ use crate::memory::NoMemory;
 use crate::passed::{Over, pass_roots};
 use crate::read::sizes_found;
 use crate::scope::Scope;
-use sqlite_items::Items;
 use std::alloc::Global;
 use svr_chain::Lit;
 use svr_clauses::clauses_of;
@@ -27,7 +26,7 @@ use svr_encoded::Encoded;
 use svr_eval::Assign;
 use svr_expand::Expansion;
 use svr_frame::{Frame, Part};
-use svr_phase::{Options, Proof, ProofReason};
+use svr_phase::{Assumed, Options, Proof, ProofReason};
 use svr_question::Question;
 use svr_soft::PassEnd;
 
@@ -51,7 +50,7 @@ fn concluded(
         PassEnd::BaseRefuted(refutation) => Ok(Found::Refuted {
             proof: Proof {
                 encoding: 0,
-                assume: Items::from_vec(base),
+                assume: Assumed::own(base),
                 refutation,
                 reason: ProofReason::Size,
             },

@@ -11,4 +11,4 @@ returns-in_err-derivation-clause-front g c = failed_with c.from_residual.result 
 pub returns-clause-whole : goal.returns-clause-whole
 returns-clause-whole g c =
     puts_as c.put_between.ensures
-    (derived_as (frame_term c.args.frame.now) c.args.encoding.now c.args.proof.now c.as_slice-assume.result.now c.as_slice-lines.result.now _ c.as_slice-assume.ensures c.as_slice-lines.ensures.value c.in_ok-derivation.ensures.text)
+    (derived_as (frame_term c.args.frame.now) c.args.encoding.now c.args.proof.now c.as_slice-lines.result.now _ c.as_slice-lines.ensures.value c.in_ok-derivation.ensures)

@@ -24,8 +24,8 @@ pub returns-in-BaseRefuted : goal.returns-in-BaseRefuted
 returns-in-BaseRefuted c =
     let e = c.args.encoding in
     let log = c.in-BaseRefuted.refutation in
-    subst (λ (over : PassEnd). Becomes (frame_term c.args.frame.now) e c.args.base.items over (found.Refuted (record { encoding = 0; assume = c.from_vec.result; refutation = log; reason = why.Size }) e)) (sym c.in-BaseRefuted.is)
-    (λ i. found.Refuted (record { encoding = 0; assume = c.from_vec.ensures i; refutation = log; reason = why.Size }) e)
+    subst (λ (over : PassEnd). Becomes (frame_term c.args.frame.now) e c.args.base.items over (found.Refuted (record { encoding = 0; assume = c.own.result; refutation = log; reason = why.Size }) e)) (sym c.in-BaseRefuted.is)
+    (λ i. found.Refuted (record { encoding = 0; assume = c.own.ensures i; refutation = log; reason = why.Size }) e)
 
 pub returns-in-Spent : goal.returns-in-Spent
 returns-in-Spent c =
