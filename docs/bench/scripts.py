@@ -10,7 +10,7 @@ whose items they always meet; switched_off.sv has 10,000 calls of a class whose 
 conflicts.sv has one call of a class of 200 items, of which three contradict each other.
 
 Of runs, small scripts of the kinds that users write: packets.sv, ascending.sv, defaults.sv, grid.sv, quotients.sv,
-ranges.sv, addresses.sv, even.sv, squares.sv, factors.sv. Of variety, 1,000 calls each on an object with few solutions: VARIETY says how many.
+ranges.sv, aligned.sv, addresses.sv, even.sv, squares.sv, factors.sv. Of variety, 1,000 calls each on an object with few solutions: VARIETY says how many.
 
 usage: scripts.py FOLDER
 """
@@ -174,6 +174,15 @@ def ranges():
     return run_of(body, 10)
 
 
+def aligned():
+    """5 times 16 regions of a megabyte that do not overlap, each at a multiple of 16."""
+    body = "class C;\nrand bit [31:0] base [16];\nrand bit [15:0] length [16];\nconstraint placed { foreach (base[i]) {\n"
+    body += "length[i] inside {[16:4096]};\nbase[i] % 16 == 0;\nbase[i] < 32'h100000; } }\n"
+    body += "constraint apart { foreach (base[i]) foreach (base[j])\n"
+    body += "(i < j) -> (base[i] + length[i] <= base[j] || base[j] + length[j] <= base[i]); }\nendclass\n"
+    return run_of(body, 5)
+
+
 def addresses():
     """10 addresses of 2,000 that are scattered over 32 bits."""
     members = ", ".join(f"32'd{2654435761 * k % 2**32}" for k in range(1, 2001))
@@ -210,6 +219,7 @@ RUNS = {
     "grid": grid,
     "quotients": quotients,
     "ranges": ranges,
+    "aligned": aligned,
     "addresses": addresses,
     "even": even,
     "squares": squares,
