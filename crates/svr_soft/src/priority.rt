@@ -59,7 +59,7 @@ fn is_true(values: &[bool], lit: Lit) -> bool
 
 /// Keeps each soft literal that can hold together with the clauses, the base and those of the kept ones that stand before it.
 ///
-/// One question tries all of them at once, and only where that fails, and there are some, there is one for the base and one for each. After
+/// One question tries all of them at once, and only where that fails, and there are some, there is one for the base and one for each that the values found last do not meet. After
 /// want of memory the solver has its clauses and its earlier steps, and can be asked again.
 pub fn pass(
     alloc: Global,
@@ -111,7 +111,7 @@ pub fn pass(
     }
 }
 
-/// The pass with a question for the base and one for each soft literal.
+/// The pass with a question for the base and one for each soft literal that the values found last do not meet.
 fn pass_in_turn(
     alloc: Global,
     solver: &mut Solver,
