@@ -27,7 +27,7 @@ fn class(
 ) -> Result<Option<TClass>, NoMemory>
     ensures { IfOk result (λ c. option_map class_term c ≡ spec.class (class_of names.now) (block_terms blocks)) }
 {
-    let props = properties(alloc, &names.props, names.inherited)?;
+    let props = properties(alloc, names.props.as_ref(), names.inherited)?;
     let name = text(alloc, names.name)?;
     match props {
         None => Ok(None),

@@ -27,7 +27,7 @@ fn props_of<'s, 'a>(
     requires { class < length classes.now }
     ensures { map prop_of result.now.entries ≡ class_props (map class_of classes.now) class }
 {
-    &classes[class].props
+    classes[class].props.as_ref()
 }
 
 /// What can be named in a block of a class, or in an in-line set for an object of it.

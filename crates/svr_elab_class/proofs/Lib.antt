@@ -1,5 +1,5 @@
 mod Tables
-mod Copied
+mod Arrays
 mod Members
 mod Declared
 mod Forms

@@ -17,7 +17,7 @@ head_of h = record {
 
 abbrev pub class_part : ClassPart → ClassElab (Option Fault)
 class_part c = record {
-  props = map prop_of c.props.entries;
+  props = map prop_of c.props.value.entries;
   arrays = c.arrays;
   own = map bytes_of c.own.keys;
   blocks = map bytes_of c.blocks.keys;

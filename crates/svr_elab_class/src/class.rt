@@ -19,6 +19,7 @@ use crate::later::own_properties;
 use crate::property::class_items;
 use indexmap::{IndexMap, IndexSet};
 use std::alloc::Global as Heap;
+use std::rc::Rc;
 use svr_elab_expr::beside;
 use svr_elab_fault::{Fault, earlier, when};
 use svr_elab_names::{ClassNames, Global, PropEntry};
@@ -94,33 +95,43 @@ pub fn label_fault(names: &Names<'_>, name: u32, label: Option<u32>) -> Option<F
     }
 }
 
-#[tactic(auto, using(crate::proofs::Copied::cloned))]
-fn copy_props<'a>(
-    props: &IndexMap<&'a [u8], PropEntry>,
-) -> Result<IndexMap<&'a [u8], PropEntry>, NoMemory>
-    ensures { IfOk result (λ m. map prop_of m.entries ≡ map prop_of props.now.entries) }
+/// A table of no properties.
+fn no_props<'a>(alloc: Heap) -> Result<Rc<IndexMap<&'a [u8], PropEntry>>, NoMemory>
+    ensures { IfOk result (λ m. map prop_of m.value.entries ≡ []) }
+{
+    match Rc::new(alloc, IndexMap::new(alloc)) {
+        Ok(props) => Ok(props),
+        Err(_) => Err(NoMemory),
+    }
+}
+
+/// The same table, for one class more.
+fn shared<'a>(
+    props: &Rc<IndexMap<&'a [u8], PropEntry>>,
+) -> Result<Rc<IndexMap<&'a [u8], PropEntry>>, NoMemory>
+    ensures { IfOk result (λ m. map prop_of m.value.entries ≡ map prop_of props.now.value.entries) }
 {
     Ok(props.clone()?)
 }
 
-/// The properties of a base class.
+/// The properties of a base class, in its own table.
 fn props_at<'a>(
     alloc: Heap,
     classes: &[ClassNames<'a>],
     base: Option<u32>,
-) -> Result<IndexMap<&'a [u8], PropEntry>, NoMemory>
-    ensures { IfOk result (λ m. map prop_of m.entries ≡ spec.props_at (map class_of classes.now) base) }
+) -> Result<Rc<IndexMap<&'a [u8], PropEntry>>, NoMemory>
+    ensures { IfOk result (λ m. map prop_of m.value.entries ≡ spec.props_at (map class_of classes.now) base) }
 {
     let Some(base) = base else {
-        return Ok(IndexMap::new(alloc));
+        return no_props(alloc);
     };
     match classes.get(base as usize) {
-        None => Ok(IndexMap::new(alloc)),
-        Some(class) => copy_props(&class.props),
+        None => no_props(alloc),
+        Some(class) => shared(&class.props),
     }
 }
 
-#[tactic(auto, using(crate::proofs::Copied::arrays_counted))]
+#[tactic(auto, using(crate::proofs::Arrays::arrays_counted))]
 fn arrays_in(props: &IndexMap<&[u8], PropEntry>) -> usize
     ensures { result ≡ spec.arrays_in (map prop_of props.now.entries) }
 {
@@ -141,7 +152,7 @@ fn class_start<'a>(
     ensures { IfOk result (λ p. class_part p ≡ spec.class_start first_one (map class_of classes.now) base) }
 {
     let props = props_at(alloc, classes, base)?;
-    let arrays = arrays_in(&props);
+    let arrays = arrays_in(props.as_ref());
     Ok(ClassPart {
         props,
         arrays,
@@ -159,7 +170,7 @@ fn count_inherited(classes: &[ClassNames<'_>], base: Option<u32>) -> usize
     };
     match classes.get(base as usize) {
         None => 0,
-        Some(class) => class.props.len(),
+        Some(class) => class.props.as_ref().len(),
     }
 }
 

@@ -10,6 +10,7 @@ ghost use Rattle.svr_elab_class.specs.Classes as spec;
 ghost use Rattle.svr_elab_class.specs.Seen.{head_of};
 
 use indexmap::{IndexMap, IndexSet};
+use std::rc::Rc;
 use svr_elab_fault::Fault;
 use svr_elab_names::{ClassNames, Global, NameSpace, PropEntry, Region};
 use svr_elab_type::NoNames;
@@ -29,10 +30,10 @@ pub struct ClassHead<'s, 'a> {
     pub none: &'s NoNames<'a>,
 }
 
-/// What is known of a class after some of its items: its properties in flat order, how many of them are arrays, the names that it declares itself, and those of its blocks. Over the limit, arrays count as one more than it.
+/// What is known of a class after some of its items: its properties in flat order, in its base's table as long as none is its own; how many of them are arrays, the names that it declares itself, and those of its blocks. Over the limit, arrays count as one more than it.
 #[derive(Drop)]
 pub struct ClassPart<'a> {
-    pub props: IndexMap<&'a [u8], PropEntry>,
+    pub props: Rc<IndexMap<&'a [u8], PropEntry>>,
     pub arrays: usize,
     pub own: IndexSet<&'a [u8]>,
     pub blocks: IndexSet<&'a [u8]>,
@@ -80,7 +81,7 @@ pub(crate) fn is_inherited(classes: &[ClassNames<'_>], base: Option<u32>, name: 
     };
     match classes.get(base as usize) {
         None => false,
-        Some(class) => has_property(&class.props, name),
+        Some(class) => has_property(class.props.as_ref(), name),
     }
 }
 

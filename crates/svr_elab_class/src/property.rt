@@ -18,6 +18,7 @@ ghost use Rattle.svr_elab_class.specs.Seen.{head_of, class_part};
 use crate::head::{ClassHead, ClassPart, is_among, is_inherited, with_name};
 use indexmap::IndexMap;
 use std::alloc::Global;
+use std::rc::Rc;
 use svr_elab_decl::{
     Before, DimsPart, InitialPart, Used, UsedPart, data_type, dims_of, initial_value,
     is_wide_cycle, property_fault, property_of,
@@ -45,6 +46,21 @@ fn and_prop<'a>(
     }
     match props.insert(name, PropEntry { property, first }) {
         Ok(_) => Ok(()),
+        Err(_) => Err(NoMemory),
+    }
+}
+
+/// One more property in a table of the class itself, which is a copy where other classes have this one too.
+fn and_own<'a>(
+    props: &mut Rc<IndexMap<&'a [u8], PropEntry>>,
+    name: &'a [u8],
+    property: Property,
+    first: u64,
+) -> Result<(), NoMemory>
+    ensures { OnOk result (map prop_of props.new.value.entries ≡ spec.and_prop (map prop_of props.old.value.entries) name.now property first) }
+{
+    match Rc::make_mut(props) {
+        Ok(own) => and_prop(own, name, property, first),
         Err(_) => Err(NoMemory),
     }
 }
@@ -93,7 +109,7 @@ fn with_property<'a>(
         fault,
         ..part
     };
-    let props = and_prop(&mut part.props, name, property, first);
+    let props = and_own(&mut part.props, name, property, first);
     let own = with_name(&mut part.own, name);
     let (part, _done) = beside(part, both(props, own))?;
     Ok(part)
@@ -112,7 +128,7 @@ fn and_property<'a>(
     ensures { IfOk result (λ p. class_part p ≡ spec.and_property first_one (head_of head.now) (class_part part.entry) name rand (used_of used) first.number first.fault (dims_part dims)) }
 {
     let spelled = head.names.name(name);
-    let count = part.props.len();
+    let count = part.props.as_ref().len();
     let kind = used.kind();
     let before = Before {
         props: count,
@@ -145,7 +161,7 @@ fn declarator<'a>(
         alloc,
         decl.name,
         decl.dims.as_slice(),
-        &head.behind(&part.props),
+        &head.behind(part.props.as_ref()),
     );
     let (part, dims) = beside(part, dims)?;
     let first = initial_value(
@@ -154,7 +170,7 @@ fn declarator<'a>(
         used.kind(),
         dims.dims,
         &decl.value,
-        &head.behind(&part.props),
+        &head.behind(part.props.as_ref()),
     );
     let (part, first) = beside(part, first)?;
     and_property(head, part, decl.name, rand, used, first, dims)
@@ -235,7 +251,7 @@ fn property_item<'a>(
     requires fits { DeclaratorsFit 0 (property_tree decl.now).decls }
     ensures { IfOk result (λ p. class_part p ≡ spec.class_item first_one (head_of head.now) (class_part part.entry) (tree.property (property_tree decl.now))) }
 {
-    let used = data_type(alloc, &decl.kind, &head.behind(&part.props));
+    let used = data_type(alloc, &decl.kind, &head.behind(part.props.as_ref()));
     let (part, used) = beside(part, used)?;
     property_decl(alloc, head, part, used, decl)
 }

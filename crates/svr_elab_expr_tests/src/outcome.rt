@@ -12,6 +12,7 @@ use crate::places::{members, properties, variables};
 use crate::reading::read;
 use indexmap::{IndexMap, IndexSet};
 use std::alloc::{AllocError, Global};
+use std::rc::Rc;
 use svr_elab_expr::value;
 use svr_elab_names::{ClassNames, Global as Stands, NameSpace, PropEntry, Region, VarStand};
 use svr_elab_part::{Part, Shape};
@@ -216,7 +217,7 @@ fn class<'a>(alloc: Global) -> Result<Vec<ClassNames<'a>>, AllocError> {
     classes.push(ClassNames {
         name: b"c",
         base: None,
-        props,
+        props: Rc::new(alloc, props)?,
         inherited: 0,
         blocks: IndexSet::new(alloc),
     })?;

@@ -26,13 +26,13 @@ members_in_line m n ps e h = subst MembersFit (sym e) (record { globals = h.glob
 
 -- ---- the properties of the class of a number
 
-props_at : (cs : List ClassNames) (k : ℕ) (d : ClassNames) → k < length cs → map prop_of (get_or cs k d).props.entries ≡ class_props (map class_of cs) k
+props_at : (cs : List ClassNames) (k : ℕ) (d : ClassNames) → k < length cs → map prop_of (get_or cs k d).props.value.entries ≡ class_props (map class_of cs) k
 props_at [] k d h = absurd (omega (arith, h))
 props_at (c ∷ cs) zero d h = refl
 props_at (c ∷ cs) (suc k) d h = props_at cs k d (omega (arith, h))
 
-pub props_are : (cs : List ClassNames) (k : ℕ) (c : ClassNames) → c ≡ get_or cs k c → k < length cs → map prop_of c.props.entries ≡ class_props (map class_of cs) k
-props_are cs k c e h = ap (λ (x : ClassNames). map prop_of x.props.entries) e ∙ props_at cs k c h
+pub props_are : (cs : List ClassNames) (k : ℕ) (c : ClassNames) → c ≡ get_or cs k c → k < length cs → map prop_of c.props.value.entries ≡ class_props (map class_of cs) k
+props_are cs k c e h = ap (λ (x : ClassNames). map prop_of x.props.value.entries) e ∙ props_at cs k c h
 
 -- an unknown class has none
 pub no_props : (cs : List ClassNames) (k : ℕ) → length cs ≤ k → class_props (map class_of cs) k ≡ []

@@ -76,7 +76,7 @@ fn set_in_line(
 {
     match names.classes.get(class as usize) {
         None => items_alone(alloc, list, names),
-        Some(class) => items_with(alloc, &class.props, list, names),
+        Some(class) => items_with(alloc, class.props.as_ref(), list, names),
     }
 }
 

@@ -33,7 +33,7 @@ abbrev pub class_of : ClassNames → ClassName
 class_of c = record {
   name = c.name.now;
   base = c.base;
-  props = map prop_of c.props.entries;
+  props = map prop_of c.props.value.entries;
   inherited = c.inherited;
   blocks = map bytes_of c.blocks.keys;
 }

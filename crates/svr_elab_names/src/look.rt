@@ -198,7 +198,7 @@ fn class_property(classes: &[ClassNames<'_>], class: u32, name: &[u8]) -> Option
 {
     match classes.get(class as usize) {
         None => None,
-        Some(class) => property_named(&class.props, name),
+        Some(class) => property_named(class.props.as_ref(), name),
     }
 }
 

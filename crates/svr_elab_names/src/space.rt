@@ -2,6 +2,7 @@
 
 use crate::meaning::{Property, Vector};
 use indexmap::{IndexMap, IndexSet};
+use std::rc::Rc;
 use svr_token::Names;
 
 /// Where an expression stands: in a typedef or a property's declaration, a constraint block, an in-line set of constraints, or a statement.
@@ -35,12 +36,12 @@ pub struct PropEntry {
     pub first: u64,
 }
 
-/// A class: its properties in flat order by name, how many of them it inherits, and the names of the blocks that it declares itself.
+/// A class: its properties in flat order by name, how many of them it inherits, and the names of the blocks that it declares itself. A class that declares no property has its base's table of them, and no copy.
 #[derive(Drop)]
 pub struct ClassNames<'a> {
     pub name: &'a [u8],
     pub base: Option<u32>,
-    pub props: IndexMap<&'a [u8], PropEntry>,
+    pub props: Rc<IndexMap<&'a [u8], PropEntry>>,
     pub inherited: usize,
     pub blocks: IndexSet<&'a [u8]>,
 }

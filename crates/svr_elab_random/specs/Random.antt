@@ -1,5 +1,5 @@
 -- Which properties can be random: those that are declared so, and those that a call lists on an object of their class or of one derived from it (IEEE 1800-2017, 18.4 and 18.11.1).
-use Rattle.std.specs.Prelude.{◌==◌, Bool, ◌&&◌, ◌||◌, List, map}
+use Rattle.std.specs.Prelude.{◌==◌, Bool, not, ◌&&◌, ◌||◌, List, map}
 use Rattle.std.specs.List.{list_any}
 use Rattle.svr_elab_names.specs.declared.Property.{Property}
 use Rattle.svr_elab_names.specs.Names.{PropName, ClassName}
@@ -20,6 +20,10 @@ listed hs p = record { number = p.number; home = p.home; kind = p.kind; rand = p
 
 abbrev pub with_list : List Home → PropName → PropName
 with_list hs p = record { name = p.name; property = listed hs p.property; first = p.first }
+
+-- a property that is listed, and could not be random without that
+abbrev pub becomes_random : List Home → PropName → Bool
+becomes_random hs p = not p.property.random && is_listed hs p.property
 
 abbrev pub with_lists : List Home → ClassName → ClassName
 with_lists hs c = record { name = c.name; base = c.base; props = map (with_list hs) c.props; inherited = c.inherited; blocks = c.blocks }

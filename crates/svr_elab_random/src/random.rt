@@ -1,12 +1,14 @@
 // Which properties can be random (IEEE 1800-2017, 18.4 and 18.11.1).
 
-ghost use Rattle.std.specs.Prelude.{◌≡◌, IfOk, map, reverse};
+ghost use Rattle.std.specs.Prelude.{◌≡◌, not, ◌&&◌, IfOk, OnOk, map, reverse};
+ghost use Rattle.std.specs.List.{list_any};
 ghost use Rattle.svr_elab_names.specs.Tables.{prop_of, class_of};
 ghost use Rattle.svr_elab_random.specs.Random as spec;
 
 use indexmap::{IndexMap, IndexSet};
 use sqlite_items::Items;
 use std::alloc::Global as Heap;
+use std::rc::Rc;
 use svr_elab_names::{ClassNames, PropEntry, Property};
 use svr_typed::NoMemory;
 
@@ -53,6 +55,7 @@ fn with_list(listed: &IndexSet<Home>, entry: PropEntry) -> PropEntry
     }
 }
 
+/// Each property of a table, where listed ones can be random.
 #[tactic(auto, using(crate::proofs::Marked::marked_more, crate::proofs::Marked::as_many, crate::proofs::Marked::marked_all))]
 fn mark(props: &mut IndexMap<&[u8], PropEntry>, listed: &IndexSet<Home>)
     ensures { map prop_of props.new.entries ≡ map (spec.with_list listed.now.keys) (map prop_of props.old.entries) }
@@ -63,17 +66,67 @@ fn mark(props: &mut IndexMap<&[u8], PropEntry>, listed: &IndexSet<Home>)
     }
 }
 
-fn with_lists<'a>(class: ClassNames<'a>, listed: &IndexSet<Home>) -> ClassNames<'a>
-    ensures { class_of result ≡ spec.with_lists listed.now.keys (class_of class.entry) }
+/// Whether a property is listed, and could not be random without that.
+fn becomes_random(listed: &IndexSet<Home>, property: Property) -> bool
+    ensures { result ≡ (not property.random && spec.is_listed listed.now.keys property) }
 {
-    let mut props = class.props;
-    mark(&mut props, listed);
-    ClassNames {
-        name: class.name,
-        base: class.base,
-        props,
-        inherited: class.inherited,
-        blocks: class.blocks,
+    !property.random && is_listed(listed, property)
+}
+
+#[tactic(auto, using(crate::proofs::Unlisted::any_random))]
+fn any_becomes_random(props: &IndexMap<&[u8], PropEntry>, listed: &IndexSet<Home>) -> bool
+    ensures { result ≡ list_any (spec.becomes_random listed.now.keys) (map prop_of props.now.entries) }
+{
+    props
+        .values()
+        .as_slice()
+        .iter()
+        .any(|entry| becomes_random(listed, entry.property))
+}
+
+/// The same in a table of its own, which is a copy where other classes have this one too.
+fn mark_own(
+    props: &mut Rc<IndexMap<&[u8], PropEntry>>,
+    listed: &IndexSet<Home>,
+) -> Result<(), NoMemory>
+    ensures { OnOk result (map prop_of props.new.value.entries ≡ map (spec.with_list listed.now.keys) (map prop_of props.old.value.entries)) }
+{
+    match Rc::make_mut(props) {
+        Ok(own) => {
+            mark(own, listed);
+            Ok(())
+        }
+        Err(_) => Err(NoMemory),
+    }
+}
+
+/// The same, where a table of which nothing is listed stays the one that other classes have too.
+fn mark_shared(
+    props: &mut Rc<IndexMap<&[u8], PropEntry>>,
+    listed: &IndexSet<Home>,
+) -> Result<(), NoMemory>
+    ensures { OnOk result (map prop_of props.new.value.entries ≡ map (spec.with_list listed.now.keys) (map prop_of props.old.value.entries)) }
+{
+    if any_becomes_random(props.as_ref(), listed) {
+        mark_own(props, listed)
+    } else {
+        Ok(())
+    }
+}
+
+fn with_lists<'a>(
+    class: ClassNames<'a>,
+    listed: &IndexSet<Home>,
+) -> Result<ClassNames<'a>, NoMemory>
+    ensures { IfOk result (λ c. class_of c ≡ spec.with_lists listed.now.keys (class_of class.entry)) }
+{
+    let mut class = class;
+    match mark_shared(&mut class.props, listed) {
+        Ok(()) => Ok(class),
+        Err(_) => {
+            drop(class);
+            Err(NoMemory)
+        }
     }
 }
 
@@ -88,7 +141,7 @@ fn marked_backwards<'a>(
     let mut rest = classes;
     let mut marked = Items::new(alloc);
     while let Some(class) = rest.pop() {
-        marked.push(with_lists(class, listed))?;
+        marked.push(with_lists(class, listed)?)?;
     }
     Ok(marked)
 }

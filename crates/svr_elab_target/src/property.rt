@@ -24,6 +24,6 @@ pub fn class_property(class: u32, name: u32, names: &NameSpace<'_, '_>) -> Optio
 {
     match names.classes.get(class as usize) {
         None => None,
-        Some(class) => property_named(&class.props, names.names.name(name)),
+        Some(class) => property_named(class.props.as_ref(), names.names.name(name)),
     }
 }

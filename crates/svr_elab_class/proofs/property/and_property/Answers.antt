@@ -12,5 +12,5 @@ returns c =
     (λ p is.
     and_property_is (head_of c.args.head.now) (class_part c.args.part) (class_part p) c.args.name c.args.rand (used_of c.args.used) c.args.first.number c.args.first.fault (dims_part c.args.dims)
     _ _ _ _ _ _ _ _ _ _ _
-    is c.name-spelled.ensures c.is_among.ensures (c.len-count.ensures.len ∙ sym (length-map c.args.part.props.entries prop_of)) c.is_inherited.ensures c.kind-kind.ensures c.is_wide_cycle.ensures c.property_fault-own.ensures
+    is c.name-spelled.ensures c.is_among.ensures ((rw c.as_ref.ensures at c.len-count.ensures.len) ∙ sym (length-map c.args.part.props.value.entries prop_of)) c.is_inherited.ensures c.kind-kind.ensures c.is_wide_cycle.ensures c.property_fault-own.ensures
     c.earlier.ensures c.earlier-fault.ensures c.number_behind.ensures c.property_of-property.ensures)

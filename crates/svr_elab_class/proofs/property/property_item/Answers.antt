@@ -14,4 +14,4 @@ returns c =
     told c.property_decl.result c.property_decl.ensures
     (λ p is.
     item_is (head_of c.args.head.now) (class_part c.args.part) (class_part p) d.rand (used_part c.in_ok-part.used) _ (type_tree d.kind) (map declarator_tree d.decls)
-    (rw c.in_ok-part.ensures.held at is) (rw c.in_ok-part.ensures.made at c.data_type-used.ensures.value) c.behind.ensures.space)
+    (rw c.in_ok-part.ensures.held at is) (rw c.in_ok-part.ensures.made at c.data_type-used.ensures.value) (rw c.as_ref.ensures at c.behind.ensures.space))

@@ -12,5 +12,5 @@ returns c =
     let made = c.in_ok-part.ensures.made in
     rw c.in_ok-part.ensures.held
     (property_more (class_part c.args.part) c.args.name.now c.args.property c.args.first c.args.fault _ _ _ _
-    (rw (rw made at c.both.ensures.first) at c.and_prop-props.ensures) c.and_array-arrays.ensures (rw (rw made at c.both.ensures.second) at c.with_name-own.ensures)
+    (rw (rw made at c.both.ensures.first) at c.and_own-props.ensures) c.and_array-arrays.ensures (rw (rw made at c.both.ensures.second) at c.with_name-own.ensures)
     c.earlier-fault.ensures (sym c.is_among.ensures ∙ c.if-is_among.false))

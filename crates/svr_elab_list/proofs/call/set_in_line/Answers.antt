@@ -16,6 +16,6 @@ returns-in-None c =
 pub returns-in-Some : goal.returns-in-Some
 returns-in-Some c =
     IfOk-weaker c.items_with.result _ _
-    (λ p h. in_line_is (space_of c.args.names.now) c.args.class (map prop_of c.in-Some.class.now.props.entries) (items_part p) (item_trees c.args.list.now) h
-    (props_are c.args.names.now.classes.now c.args.class c.in-Some.class.now c.in-Some.ensures.lookup.1 c.in-Some.ensures.lookup.3.0))
+    (λ p h. in_line_is (space_of c.args.names.now) c.args.class (map prop_of c.as_ref.result.now.entries) (items_part p) (item_trees c.args.list.now) h
+    (rw c.as_ref.ensures (props_are c.args.names.now.classes.now c.args.class c.in-Some.class.now c.in-Some.ensures.lookup.1 c.in-Some.ensures.lookup.3.0)))
     c.items_with.ensures

@@ -1,0 +1,5 @@
+use Rattle.svr_elab_names.proofs.Shared.{own}
+use Rattle.svr_elab_class.proofs.property.and_own.Goals as goal
+
+pub returns-in-Ok : goal.returns-in-Ok
+returns-in-Ok c = rw (own c.args.props.now.value _ c.in-Ok.ensures.value) at c.and_prop.ensures
