@@ -43,7 +43,10 @@ left_alone hs (e ∷ es) h =
     ap (λ (ps : List PropName). prop_of e ∷ ps) (left_alone hs es two.1)
     ∙ ap (λ (p : Property). with_property e p ∷ map (with_list hs) (map prop_of es)) (sym (unlisted hs e.1.property two.0))
 
+abbrev Same : Key × PropEntry → Key × PropEntry → Type 0
+Same p q = (q.0 ≡ p.0) × (q.1 ≡ p.1)
+
 -- what is marked in a table of its own
 pub marked_own : {S : Type 0} (hs : List Home) (m n : IndexMap Key PropEntry S) (ps : List PropName)
-    → ((n ≡ m) ⊎ AllZip (λ p q. (q.0 ≡ p.0) × (q.1 ≡ p.1)) m.entries n.entries) → ps ≡ map (with_list hs) (map prop_of n.entries) → ps ≡ map (with_list hs) (map prop_of m.entries)
+    → (n ≡ m) ⊎ AllZip Same m.entries n.entries → ps ≡ map (with_list hs) (map prop_of n.entries) → ps ≡ map (with_list hs) (map prop_of m.entries)
 marked_own hs m n ps is h = h ∙ ap (λ (qs : List PropName). map (with_list hs) qs) (own m n is)
