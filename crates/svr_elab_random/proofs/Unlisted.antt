@@ -9,15 +9,15 @@ use Rattle.svr_elab_names.specs.Names.{PropName}
 use Rattle.svr_elab_names.specs.Tables.{Key, prop_of}
 use Rattle.svr_elab_names.proofs.Shared.{own}
 use Rattle.svr_elab_random.specs.declared.random.Home.{Home}
-use Rattle.svr_elab_random.specs.Random.{is_listed, listed, with_list, becomes_random}
+use Rattle.svr_elab_random.specs.Random.{is_listed, listed, with_list, becomes_random, entry_becomes_random}
 
 abbrev Entries : Type 0
 Entries = List (Key × PropEntry)
 
 pub any_random : (hs : List Home) (es : Entries)
-    → list_any (becomes_random hs) (map prop_of es) ≡ list_any (λ (e : PropEntry). not e.property.random && is_listed hs e.property) (values_of es)
+    → list_any (becomes_random hs) (map prop_of es) ≡ list_any (entry_becomes_random hs) (values_of es)
 any_random hs [] = refl
-any_random hs (e ∷ es) = ap (λ (b : Bool). (not e.1.property.random && is_listed hs e.1.property) || b) (any_random hs es)
+any_random hs (e ∷ es) = ap (λ (b : Bool). entry_becomes_random hs e.1 || b) (any_random hs es)
 
 neither : (a b : Bool) → (a || b) ≡ false → (a ≡ false) × (b ≡ false)
 neither true b h = absurd (true≢false h)
@@ -36,7 +36,7 @@ unlisted hs p h = ap (with_random p) (same_random p.random (is_listed hs p) h)
 abbrev with_property : Key × PropEntry → Property → PropName
 with_property e p = record { name = e.0.now; property = p; first = e.1.first }
 
-pub left_alone : (hs : List Home) (es : Entries) → list_any (becomes_random hs) (map prop_of es) ≡ false → map prop_of es ≡ map (with_list hs) (map prop_of es)
+left_alone : (hs : List Home) (es : Entries) → list_any (becomes_random hs) (map prop_of es) ≡ false → map prop_of es ≡ map (with_list hs) (map prop_of es)
 left_alone hs [] h = refl
 left_alone hs (e ∷ es) h =
     let two = neither (becomes_random hs (prop_of e)) (list_any (becomes_random hs) (map prop_of es)) h in
@@ -50,3 +50,9 @@ Same p q = (q.0 ≡ p.0) × (q.1 ≡ p.1)
 pub marked_own : {S : Type 0} (hs : List Home) (m n : IndexMap Key PropEntry S) (ps : List PropName)
     → (n ≡ m) ⊎ AllZip Same m.entries n.entries → ps ≡ map (with_list hs) (map prop_of n.entries) → ps ≡ map (with_list hs) (map prop_of m.entries)
 marked_own hs m n ps is h = h ∙ ap (λ (qs : List PropName). map (with_list hs) qs) (own m n is)
+
+-- where the table that was looked through is the one that stays
+pub left_shared : {S : Type 0} (hs : List Home) (m t : IndexMap Key PropEntry S) (b : Bool)
+    → t ≡ m → b ≡ list_any (becomes_random hs) (map prop_of t.entries) → b ≡ false → map prop_of m.entries ≡ map (with_list hs) (map prop_of m.entries)
+left_shared {S = S} hs m t b is looked none =
+    left_alone hs m.entries (ap (λ (k : IndexMap Key PropEntry S). list_any (becomes_random hs) (map prop_of k.entries)) (sym is) ∙ sym looked ∙ none)

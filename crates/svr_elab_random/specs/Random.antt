@@ -2,6 +2,7 @@
 use Rattle.std.specs.Prelude.{◌==◌, Bool, not, ◌&&◌, ◌||◌, List, map}
 use Rattle.std.specs.List.{list_any}
 use Rattle.svr_elab_names.specs.declared.Property.{Property}
+use Rattle.svr_elab_names.specs.declared.PropEntry.{PropEntry}
 use Rattle.svr_elab_names.specs.Names.{PropName, ClassName}
 use Rattle.svr_elab_random.specs.declared.random.Home.{Home}
 
@@ -24,6 +25,9 @@ with_list hs p = record { name = p.name; property = listed hs p.property; first 
 -- a property that is listed, and could not be random without that
 abbrev pub becomes_random : List Home → PropName → Bool
 becomes_random hs p = not p.property.random && is_listed hs p.property
+
+abbrev pub entry_becomes_random : List Home → PropEntry → Bool
+entry_becomes_random hs e = not e.property.random && is_listed hs e.property
 
 abbrev pub with_lists : List Home → ClassName → ClassName
 with_lists hs c = record { name = c.name; base = c.base; props = map (with_list hs) c.props; inherited = c.inherited; blocks = c.blocks }

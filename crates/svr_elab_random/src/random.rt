@@ -1,6 +1,6 @@
 // Which properties can be random (IEEE 1800-2017, 18.4 and 18.11.1).
 
-ghost use Rattle.std.specs.Prelude.{◌≡◌, not, ◌&&◌, IfOk, OnOk, map, reverse};
+ghost use Rattle.std.specs.Prelude.{◌≡◌, IfOk, OnOk, map, reverse};
 ghost use Rattle.std.specs.List.{list_any};
 ghost use Rattle.svr_elab_names.specs.Tables.{prop_of, class_of};
 ghost use Rattle.svr_elab_random.specs.Random as spec;
@@ -67,21 +67,22 @@ fn mark(props: &mut IndexMap<&[u8], PropEntry>, listed: &IndexSet<Home>)
 }
 
 /// Whether a property is listed, and could not be random without that.
-fn becomes_random(listed: &IndexSet<Home>, property: Property) -> bool
-    ensures { result ≡ (not property.random && spec.is_listed listed.now.keys property) }
+fn becomes_random(listed: &IndexSet<Home>, entry: PropEntry) -> bool
+    ensures { result ≡ spec.entry_becomes_random listed.now.keys entry }
 {
-    !property.random && is_listed(listed, property)
+    !entry.property.random && is_listed(listed, entry.property)
 }
 
-#[tactic(auto, using(crate::proofs::Unlisted::any_random))]
+fn any_entry(entries: &[PropEntry], listed: &IndexSet<Home>) -> bool
+    ensures { result ≡ list_any (spec.entry_becomes_random listed.now.keys) entries.now }
+{
+    entries.iter().any(|entry| becomes_random(listed, *entry))
+}
+
 fn any_becomes_random(props: &IndexMap<&[u8], PropEntry>, listed: &IndexSet<Home>) -> bool
     ensures { result ≡ list_any (spec.becomes_random listed.now.keys) (map prop_of props.now.entries) }
 {
-    props
-        .values()
-        .as_slice()
-        .iter()
-        .any(|entry| becomes_random(listed, entry.property))
+    any_entry(props.values().as_slice(), listed)
 }
 
 /// The same in a table of its own, which is a copy where other classes have this one too.
@@ -107,11 +108,10 @@ fn mark_shared(
 ) -> Result<(), NoMemory>
     ensures { OnOk result (map prop_of props.new.value.entries ≡ map (spec.with_list listed.now.keys) (map prop_of props.old.value.entries)) }
 {
-    if any_becomes_random(props.as_ref(), listed) {
-        mark_own(props, listed)
-    } else {
-        Ok(())
+    if any_becomes_random(Rc::as_ref(props), listed) {
+        return mark_own(props, listed);
     }
+    Ok(())
 }
 
 fn with_lists<'a>(
