@@ -1,6 +1,6 @@
 // What elaboration says of a text.
 
-ghost use Rattle.std.specs.Prelude.{◌≡◌, ◌≤◌, ◌<◌, ◌^◌, length, map};
+ghost use Rattle.std.specs.Prelude.{◌≡◌, ◌≤◌, map};
 ghost use Rattle.std.specs.List.{All};
 ghost use Rattle.svr_token.specs.declared.Lexeme.{Lexeme as LexemeType};
 ghost use Rattle.svr_token.specs.Tokens.{IsTokenOf};
@@ -62,153 +62,41 @@ fn outcome_of<T: Known + Drop>(found: Result<T, NoMemory>) -> Outcome {
 }
 
 /// What can be named where a text stands, but enum members, of which there is one.
-#[derive(Clone, Copy)]
-struct Place<'s, 'a> {
+#[derive(Drop)]
+struct Place<'a> {
     region: Region,
-    classes: &'s [ClassNames<'a>],
-    props: &'s IndexMap<&'a [u8], PropEntry>,
-    vars: &'s IndexMap<&'a [u8], VarStand>,
-    made: &'s IndexSet<u32>,
+    classes: Vec<ClassNames<'a>>,
+    props: IndexMap<&'a [u8], PropEntry>,
+    vars: IndexMap<&'a [u8], VarStand>,
+    made: IndexSet<u32>,
 }
 
-fn said<'s, 'a>(
-    alloc: Global,
-    text: &'a [u8],
-    tokens: &'a [Token],
-    globals: &'s IndexMap<&'a [u8], Stands>,
-    later: &'s IndexSet<&'a [u8]>,
-    place: Place<'s, 'a>,
-) -> Outcome
-    requires spelled { All (λ t. (l : LexemeType) × IsTokenOf text.now t l) tokens.now }
-    requires vars { length place.vars.now.entries < 2 ^ 32 }
-    requires members { Each (λ (g : GlobalName). GlobalFits g.stands) (map global_of globals.now.entries) }
-{
-    let names = NameSpace {
-        names: Names { text, tokens },
-        region: place.region,
-        globals,
-        classes: place.classes,
-        props: place.props,
-        later,
-        loops: &[],
-        vars: place.vars,
-        made: place.made,
-    };
-    let tree = read(alloc, text, tokens);
-    let outcome = match &tree {
-        Ok(tree) => outcome_of(value(alloc, tree, &names)),
-        Err(_) => Outcome::Nothing,
-    };
-    let_go(tree);
-    outcome
-}
+// ---- places
 
-/// What is said of a text, which has these tokens.
-fn among<'s, 'a>(
-    alloc: Global,
-    text: &'a [u8],
-    tokens: &'a [Token],
-    place: Place<'s, 'a>,
-) -> Outcome
-    requires spelled { All (λ t. (l : LexemeType) × IsTokenOf text.now t l) tokens.now }
-    requires vars { length place.vars.now.entries < 2 ^ 32 }
-{
-    let globals = members(alloc);
-    let later = IndexSet::new(alloc);
-    let outcome = match &globals {
-        Ok(globals) => said(alloc, text, tokens, globals, &later, place),
-        Err(_) => Outcome::Nothing,
-    };
-    let_go((globals, later));
-    outcome
-}
-
-fn at_place<'s, 'a>(alloc: Global, text: &'a [u8], place: Place<'s, 'a>) -> Outcome
-    requires { length place.vars.now.entries < 2 ^ 32 }
-{
-    if text.len() > 1000 {
-        return Outcome::Nothing;
-    }
-    match lex(alloc, text) {
-        Ok(tokens) => among(alloc, text, &tokens, place),
-        Err(_) => Outcome::Nothing,
-    }
-}
-
-// ---- blocks
-
-fn block<'a>(alloc: Global, text: &'a [u8], props: &IndexMap<&'a [u8], PropEntry>) -> Outcome {
-    let vars = IndexMap::new(alloc);
-    let made = IndexSet::new(alloc);
-    let place = Place {
+/// A constraint block of the class.
+fn block_place<'a>(alloc: Global) -> Result<Place<'a>, AllocError> {
+    let props = properties(alloc)?;
+    Ok(Place {
         region: Region::Block,
-        classes: &[],
+        classes: Vec::new(alloc),
         props,
-        vars: &vars,
-        made: &made,
-    };
-    let outcome = at_place(alloc, text, place);
-    let_go((vars, made));
-    outcome
+        vars: IndexMap::new(alloc),
+        made: IndexSet::new(alloc),
+    })
 }
 
-/// What elaboration says of a text in a constraint block of the class.
-pub fn in_block(alloc: Global, text: &[u8]) -> Outcome {
-    let props = properties(alloc);
-    let outcome = match &props {
-        Ok(props) => block(alloc, text, props),
-        Err(_) => Outcome::Nothing,
-    };
-    let_go(props);
-    outcome
-}
-
-// ---- sets
-
-fn set_beside<'a>(
-    alloc: Global,
-    text: &'a [u8],
-    props: &IndexMap<&'a [u8], PropEntry>,
-    vars: &IndexMap<&'a [u8], VarStand>,
-) -> Outcome {
-    if vars.len() > 10 {
-        return Outcome::Nothing;
-    }
-    let made = IndexSet::new(alloc);
-    let place = Place {
+/// A set that stands behind a call.
+fn set_place<'a>(alloc: Global) -> Result<Place<'a>, AllocError> {
+    let props = properties(alloc)?;
+    let vars = variables(alloc)?;
+    Ok(Place {
         region: Region::InLine,
-        classes: &[],
+        classes: Vec::new(alloc),
         props,
         vars,
-        made: &made,
-    };
-    let outcome = at_place(alloc, text, place);
-    let_go(made);
-    outcome
+        made: IndexSet::new(alloc),
+    })
 }
-
-fn set<'a>(alloc: Global, text: &'a [u8], props: &IndexMap<&'a [u8], PropEntry>) -> Outcome {
-    let vars = variables(alloc);
-    let outcome = match &vars {
-        Ok(vars) => set_beside(alloc, text, props, vars),
-        Err(_) => Outcome::Nothing,
-    };
-    let_go(vars);
-    outcome
-}
-
-/// What elaboration says of a text in a set that stands behind a call.
-pub fn in_set(alloc: Global, text: &[u8]) -> Outcome {
-    let props = properties(alloc);
-    let outcome = match &props {
-        Ok(props) => set(alloc, text, props),
-        Err(_) => Outcome::Nothing,
-    };
-    let_go(props);
-    outcome
-}
-
-// ---- statements
 
 /// The class alone, with its properties.
 fn class<'a>(alloc: Global) -> Result<Vec<ClassNames<'a>>, AllocError> {
@@ -231,61 +119,119 @@ fn first_made(alloc: Global) -> Result<IndexSet<u32>, AllocError> {
     Ok(made)
 }
 
-fn behind_new<'a>(
-    alloc: Global,
-    text: &'a [u8],
-    vars: &IndexMap<&'a [u8], VarStand>,
-    classes: &[ClassNames<'a>],
-    made: &IndexSet<u32>,
-) -> Outcome {
-    if vars.len() > 10 {
-        return Outcome::Nothing;
-    }
-    let props = IndexMap::new(alloc);
-    let place = Place {
+/// A statement, where `p` has an object and `q` has none.
+fn statement_place<'a>(alloc: Global) -> Result<Place<'a>, AllocError> {
+    let classes = class(alloc)?;
+    let vars = variables(alloc)?;
+    let made = first_made(alloc)?;
+    Ok(Place {
         region: Region::Statement,
         classes,
-        props: &props,
+        props: IndexMap::new(alloc),
         vars,
         made,
-    };
-    let outcome = at_place(alloc, text, place);
-    let_go(props);
-    outcome
+    })
 }
 
-fn of_class<'a>(
+/// Where a text stands.
+#[derive(Clone, Copy)]
+enum Site {
+    Block,
+    Set,
+    Statement,
+}
+
+fn place_of<'a>(alloc: Global, site: Site) -> Result<Place<'a>, AllocError> {
+    match site {
+        Site::Block => block_place(alloc),
+        Site::Set => set_place(alloc),
+        Site::Statement => statement_place(alloc),
+    }
+}
+
+// ---- texts
+
+fn said<'s, 'a>(
     alloc: Global,
     text: &'a [u8],
-    vars: &IndexMap<&'a [u8], VarStand>,
-    classes: &[ClassNames<'a>],
-) -> Outcome {
-    let made = first_made(alloc);
-    let outcome = match &made {
-        Ok(made) => behind_new(alloc, text, vars, classes, made),
+    tokens: &'a [Token],
+    globals: &'s IndexMap<&'a [u8], Stands>,
+    later: &'s IndexSet<&'a [u8]>,
+    place: &'s Place<'a>,
+) -> Outcome
+    requires spelled { All (λ t. (l : LexemeType) × IsTokenOf text.now t l) tokens.now }
+    requires members { Each (λ (g : GlobalName). GlobalFits g.stands) (map global_of globals.now.entries) }
+{
+    if place.vars.len() > 10 {
+        return Outcome::Nothing;
+    }
+    let names = NameSpace {
+        names: Names { text, tokens },
+        region: place.region,
+        globals,
+        classes: place.classes.as_slice(),
+        props: &place.props,
+        later,
+        loops: &[],
+        vars: &place.vars,
+        made: &place.made,
+    };
+    let tree = read(alloc, text, tokens);
+    let outcome = match &tree {
+        Ok(tree) => outcome_of(value(alloc, tree, &names)),
         Err(_) => Outcome::Nothing,
     };
-    let_go(made);
+    let_go(tree);
     outcome
 }
 
-fn statement<'a>(alloc: Global, text: &'a [u8], vars: &IndexMap<&'a [u8], VarStand>) -> Outcome {
-    let classes = class(alloc);
-    let outcome = match &classes {
-        Ok(classes) => of_class(alloc, text, vars, classes.as_slice()),
+fn at_place<'a>(alloc: Global, text: &'a [u8], tokens: &'a [Token], place: &Place<'a>) -> Outcome
+    requires { All (λ t. (l : LexemeType) × IsTokenOf text.now t l) tokens.now }
+{
+    let globals = members(alloc);
+    let later = IndexSet::new(alloc);
+    let outcome = match &globals {
+        Ok(globals) => said(alloc, text, tokens, globals, &later, place),
         Err(_) => Outcome::Nothing,
     };
-    let_go(classes);
+    let_go((globals, later));
     outcome
+}
+
+/// What is said of a text, which has these tokens. The place is made behind them, since its names live as long.
+fn among<'a>(alloc: Global, text: &'a [u8], tokens: &'a [Token], site: Site) -> Outcome
+    requires { All (λ t. (l : LexemeType) × IsTokenOf text.now t l) tokens.now }
+{
+    let place = place_of(alloc, site);
+    let outcome = match &place {
+        Ok(place) => at_place(alloc, text, tokens, place),
+        Err(_) => Outcome::Nothing,
+    };
+    let_go(place);
+    outcome
+}
+
+fn told(alloc: Global, text: &[u8], site: Site) -> Outcome {
+    if text.len() > 1000 {
+        return Outcome::Nothing;
+    }
+    match lex(alloc, text) {
+        Ok(tokens) => among(alloc, text, &tokens, site),
+        Err(_) => Outcome::Nothing,
+    }
+}
+
+/// What elaboration says of a text in a constraint block of the class.
+pub fn in_block(alloc: Global, text: &[u8]) -> Outcome {
+    told(alloc, text, Site::Block)
+}
+
+/// What elaboration says of a text in a set that stands behind a call.
+pub fn in_set(alloc: Global, text: &[u8]) -> Outcome {
+    told(alloc, text, Site::Set)
 }
 
 /// What elaboration says of a text in a statement, where `p` has an object and `q` has none.
 pub fn in_statement(alloc: Global, text: &[u8]) -> Outcome {
-    let vars = variables(alloc);
-    let outcome = match &vars {
-        Ok(vars) => statement(alloc, text, vars),
-        Err(_) => Outcome::Nothing,
-    };
-    let_go(vars);
-    outcome
+    told(alloc, text, Site::Statement)
 }
