@@ -173,13 +173,13 @@ fn and_value(
 
 /// The value of a variable behind these variables, the last of which it may be.
 #[tactic(auto, using(crate::proofs::Fitting::members_there, crate::proofs::Fitting::init_there))]
-fn value_behind(
+fn value_behind<'a>(
     alloc: Global,
     stmts: StmtsPart,
     var: Declared,
     init: &Option<VarInit>,
-    names: &NameSpace<'_, '_>,
-    vars: &IndexMap<&[u8], VarStand>,
+    names: &NameSpace<'_, 'a>,
+    vars: &IndexMap<&'a [u8], VarStand>,
     made: &mut IndexSet<u32>,
 ) -> Result<StmtsPart, NoMemory>
     requires vars { length vars.now.entries < 2 ^ 32 }

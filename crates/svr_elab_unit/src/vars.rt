@@ -203,11 +203,11 @@ where
 
 /// The type of a declaration behind these variables.
 #[tactic(auto, using(crate::proofs::Fitting::members_there, crate::proofs::Fitting::type_there))]
-fn type_behind(
+fn type_behind<'a>(
     alloc: Global,
     kind: &DataType,
-    names: &NameSpace<'_, '_>,
-    vars: &IndexMap<&[u8], VarStand>,
+    names: &NameSpace<'_, 'a>,
+    vars: &IndexMap<&'a [u8], VarStand>,
 ) -> Result<UsedPart, NoMemory>
     requires vars { length vars.now.entries < 2 ^ 32 }
     requires members { MembersFit (space_of names.now) }
