@@ -59,7 +59,7 @@ all_cycles so_far (o ∷ os) h =
     ap (λ b. earlier (when first_one b o.at refusal.SolveCycle) (cycles first_one (so_far ++ o ∷ []) os)) more
     ∙ ap (earlier (Some (record { token = o.at; refusal = refusal.SolveCycle }))) (all_cycles (so_far ++ o ∷ []) os more)
 
-no_cycles : (os so_far rest : List Order) → os ≡ so_far ++ rest → IsFirstCycle os (length so_far) None → cycles first_one so_far rest ≡ None
+pub no_cycles : (os so_far rest : List Order) → os ≡ so_far ++ rest → IsFirstCycle os (length so_far) None → cycles first_one so_far rest ≡ None
 no_cycles os so_far [] e h = refl
 no_cycles os so_far (o ∷ rest) e h =
     let n : length os ≡ length so_far + suc (length rest) = ap length e ∙ length-append so_far (o ∷ rest) in

@@ -3,5 +3,6 @@ pub mod Settling
 pub mod Sources
 pub mod Loops
 pub mod Firsts
+pub mod Ranked
 pub mod Bounds
 pub mod Empties

@@ -1,4 +1,5 @@
 pub mod Order
 pub mod Graph
 pub mod Cycles
+pub mod Ranks
 pub mod Examples

@@ -3,14 +3,18 @@
 //! Items and properties are nodes of one graph: an item comes behind its first names, and a property behind each item that has it among its later ones. No item orders a property before itself exactly where every way back through that graph has an end.
 #![tactic(auto)]
 
+mod behind;
 mod flags;
 mod graph;
 mod law;
 mod order;
+mod ranks;
 mod refuse;
 mod search;
 mod settle;
 
+pub use behind::are_behind;
 pub use law::{chains_are_as_worked_out, comes_by_items, keeps_the_first, loops_are_as_worked_out};
 pub use order::Order;
+pub use ranks::{Ranks, ranks_of};
 pub use refuse::cycle_fault;
