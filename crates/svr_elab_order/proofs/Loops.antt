@@ -1,35 +1,16 @@
--- Items order no property before itself exactly where all nodes of their graph are settled.
-use Rattle.std.proofs.Common.{◌≡◌, ℕ, zero, suc, ◌+◌, ◌-◌, ◌<◌, Bool, true, false, not, ◌&&◌, ◌||◌, nat_eq, List, [], ◌∷◌, ◌++◌, length, map, refl, sym, ap, ◌∙◌, subst, arith, inl, inr, ⊎_elim, get_or, length-append}
+-- Where all nodes of their graph are settled, items agree with the ranks of the properties; where one is not, items order a property before itself.
+use Rattle.std.proofs.Common.{◌≡◌, ℕ, zero, suc, ◌+◌, ◌-◌, ◌<◌, Bool, true, false, not, ◌&&◌, ◌||◌, nat_eq, List, [], ◌∷◌, ◌++◌, length, take, map, refl, sym, ap, ◌∙◌, arith, inl, inr, ⊎_elim, get_or, length-append}
 use Rattle.std.specs.Prelude.{◌⊎◌}
 use Rattle.std.proofs.lemmas.Bool.{or_cases, or_left, or_right, and_parts, and_from, eqb-true, eq-eqb, false≢true, cases_Bool, cases_lt, both_ways, true_from_ne_false, false_from_ne_true, not_from_true, not_from_false}
-use Rattle.std.proofs.lemmas.List.{get_or_append_left, get_or-append-add, length-map}
+use Rattle.std.proofs.lemmas.List.{get_or_append_left, get_or-append-add, get_or-take, get_or_default, length-map}
 use Rattle.svr_elab_order.specs.declared.order.Order.{Order}
-use Rattle.svr_elab_order.specs.Order.{is_in, before_of, orders_itself, is_put, Precedes, one, more}
-use Rattle.svr_elab_order.specs.Graph.{right_before, IsFounded, founded, is_settled, AreFounded, AreHeld, AreAll, first_of, is_named, AreNames, is_item_before, IsGraph}
-use Rattle.svr_elab_order.proofs.Ways.{both_chains, loop_itself, itself_loop, before_transitive, put_before, before_chain}
-
--- ---- a founded property is not before itself
-
--- each chain of items back from a property has an end
-data IsGrounded (os : List Order) : ℕ → Type 0 where
-  grounded : (b : ℕ) → ((a : ℕ) → is_put os a b ≡ true → IsGrounded os a) → IsGrounded os b
-
-ahead : (os : List Order) (a b c : ℕ) → is_put os a b ≡ true → Precedes os b c → Precedes os a c
-ahead os a b c p h = both_chains os a b c (one a b p) h
-
--- the last item of a chain that leads back
-last_item : (os : List Order) (a b : ℕ) → Precedes os a b → (p : ℕ) × (is_put os p b ≡ true) × ((a ≡ p) ⊎ Precedes os a p)
-last_item os a b (one _ _ p) = (a, p, inl refl)
-last_item os a c (more _ b _ h p) = (b, p, inr h)
-
-around : (os : List Order) (b p : ℕ) → is_put os p b ≡ true → (b ≡ p) ⊎ Precedes os b p → Precedes os p p
-around os b p h (inl e) = subst (Precedes os p) e (one p b h)
-around os b p h (inr k) = ahead os p b p h k
-
-no_loop : (os : List Order) (b : ℕ) → IsGrounded os b → Precedes os b b → ⊥
-no_loop os b (grounded _ f) h =
-    let w = last_item os b b h in
-    no_loop os w.0 (f w.0 w.1) (around os b w.0 w.1 w.2)
+use Rattle.svr_elab_order.specs.declared.ranking.Ranking.{Ranking}
+use Rattle.svr_elab_order.specs.declared.ranks.Ranks.{Ranks}
+use Rattle.svr_elab_order.specs.Order.{is_in, before_of, orders_itself, is_put}
+use Rattle.svr_elab_order.specs.Graph.{right_before, rank_at, is_settled, AreRanked, IsRanking, AreHeld, AreAll, first_of, is_named, AreNames, is_item_before, IsGraph}
+use Rattle.svr_elab_order.specs.Ranks.{rank_of, agree}
+use Rattle.svr_elab_order.proofs.Ways.{loop_itself, before_transitive, put_before, before_chain}
+use Rattle.svr_elab_order.proofs.Ranked.{agree_from}
 
 -- ---- items by their places
 
@@ -43,6 +24,13 @@ named_put [] x y h = absurd (false≢true h)
 named_put (o ∷ os) x y h = elim (or_cases (is_in x o.first && is_in y o.later) (is_put os x y) h) [
   | inl e ↦ or_left (is_in x o.first || is_in x o.later) (is_named os x) (or_left (is_in x o.first) (is_in x o.later) (and_parts (is_in x o.first) (is_in y o.later) e).0)
   | inr e ↦ or_right (is_in x o.first || is_in x o.later) (is_named os x) (named_put os x y e)
+]
+
+named_later : (os : List Order) (x y : ℕ) → is_put os x y ≡ true → is_named os y ≡ true
+named_later [] x y h = absurd (false≢true h)
+named_later (o ∷ os) x y h = elim (or_cases (is_in x o.first && is_in y o.later) (is_put os x y) h) [
+  | inl e ↦ or_left (is_in y o.first || is_in y o.later) (is_named os y) (or_right (is_in y o.first) (is_in y o.later) (and_parts (is_in x o.first) (is_in y o.later) e).1)
+  | inr e ↦ or_right (is_in y o.first || is_in y o.later) (is_named os y) (named_later os x y e)
 ]
 
 -- an item that orders x before y
@@ -189,99 +177,108 @@ module _ (names : ℕ) (os : List Order) (g : List (List ℕ)) (graph : IsGraph 
       let w = item_from names os x y p in
       (names + w.place, at_property y h (names + w.place) ∙ w.item, ap (is_in x) (at_item w.place) ∙ w.first)
 
-  put_name : (x y : ℕ) → is_put os x y ≡ true → x < names
-  put_name x y p = above x (named_put os x y p)
+  -- ---- where all is settled, each item raises the rank
 
-  abbrev Ground : ℕ → Type 0
-  Ground v = (v < names → IsGrounded os v) × ((x : ℕ) → is_in x (right_before g v) ≡ true → x < names → IsGrounded os x)
+  module _ (ranks : List ℕ) (ranked : AreRanked g ranks) (all : (v : ℕ) → v < length g → is_settled ranks v ≡ true) where
+    put_raises : (x y : ℕ) → is_put os x y ≡ true → rank_at ranks x < rank_at ranks y
+    put_raises x y p =
+        let name : y < names = above y (named_later os x y p) in
+        let within : y < length g = omega (arith, nodes) in
+        let u = between x y name p in
+        let late = ranked y u.0 (all y within) u.1 in
+        let early = ranked u.0 x late.0 u.2 in
+        let a : rank_at ranks u.0 < rank_at ranks y = late.1 in
+        let b : rank_at ranks x < rank_at ranks u.0 = early.1 in
+        omega (arith, a, b)
 
-  ground : (v : ℕ) → IsFounded g v → Ground v
-  ground v (founded _ f) = (
-    λ h. grounded v (λ x p. let u = between x v h p in (ground u.0 (f u.0 u.1)).1 x u.2 (put_name x v p)),
-    λ x k h. (ground x (f x k)).0 h,
-  )
+    table_rank : (r : Ranks) → r.table ≡ take names ranks → length ranks ≡ length g → (x : ℕ) → x < names → rank_of r x ≡ rank_at ranks x
+    table_rank r e n x h =
+        let within : x < length ranks = omega (arith, n, nodes) in
+        ap (λ (t : List ℕ). get_or t x (r.above + x)) e ∙ get_or-take names ranks x (r.above + x) h ∙ get_or_default ranks x (r.above + x) 0 within
+
+    raised : (r : Ranks) → r.table ≡ take names ranks → length ranks ≡ length g → (x y : ℕ) → is_put os x y ≡ true → rank_of r x < rank_of r y
+    raised r e n x y p =
+        let a : rank_of r x ≡ rank_at ranks x = table_rank r e n x (above x (named_put os x y p)) in
+        let b : rank_of r y ≡ rank_at ranks y = table_rank r e n y (above y (named_later os x y p)) in
+        let l : rank_at ranks x < rank_at ranks y = put_raises x y p in
+        omega (arith, a, b, l)
 
   -- ---- properties that are not settled
 
-  record Unsettled (flags : List Bool) (x : ℕ) : Type 0 where
+  record Unsettled (ranks : List ℕ) (x : ℕ) : Type 0 where
     name : x < names
-    unsettled : is_settled flags x ≡ false
+    unsettled : is_settled ranks x ≡ false
 
-  record Behind (flags : List Bool) (y : ℕ) : Type 0 where
+  record Behind (ranks : List ℕ) (y : ℕ) : Type 0 where
     by : ℕ
     put : is_put os by y ≡ true
-    still : Unsettled flags by
+    still : Unsettled ranks by
 
-  module _ (flags : List Bool) (held : AreHeld g flags) where
+  module _ (ranks : List ℕ) (held : AreHeld g ranks) where
     -- an item that is not settled has a first name that is not
-    item_held : (i : ℕ) → i < length os → is_settled flags (names + i) ≡ false → (x : ℕ) × (is_in x (get_or (map first_of os) i []) ≡ true) × Unsettled flags x
+    item_held : (i : ℕ) → i < length os → is_settled ranks (names + i) ≡ false → (x : ℕ) × (is_in x (get_or (map first_of os) i []) ≡ true) × Unsettled ranks x
     item_held i h e =
         let within : names + i < length g = omega (arith, nodes) in
         let w = held (names + i) within e in
         let first : is_in w.by (get_or (map first_of os) i []) ≡ true = sym (ap (is_in w.by) (at_item i)) ∙ w.before in
         (w.by, first, record { name = above w.by (named_first os i w.by first); unsettled = w.unsettled })
 
-    behind : (y : ℕ) → Unsettled flags y → Behind flags y
+    behind : (y : ℕ) → Unsettled ranks y → Behind ranks y
     behind y k =
         let name : y < names = k.name in
         let within : y < length g = omega (arith, nodes) in
         let w = held y within k.unsettled in
         let i = item_of names os w.by y (sym (at_property y name w.by) ∙ w.before) in
-        let x = item_held i.place i.within (sym (ap (is_settled flags) i.is) ∙ w.unsettled) in
+        let x = item_held i.place i.within (sym (ap (is_settled ranks) i.is) ∙ w.unsettled) in
         record { by = x.0; put = i.put x.0 x.1; still = x.2 }
 
-    some_unsettled : (v : ℕ) → v < length g → is_settled flags v ≡ false → (x : ℕ) × Unsettled flags x
+    some_unsettled : (v : ℕ) → v < length g → is_settled ranks v ≡ false → (x : ℕ) × Unsettled ranks x
     some_unsettled v h e = elim (cases_lt v names) [
       | inl l ↦ (v, record { name = l; unsettled = e })
       | inr l ↦
           let is : v ≡ names + (v - names) = omega arith in
           let within : v - names < length os = omega (arith, nodes) in
-          let w = item_held (v - names) within (sym (ap (is_settled flags) is) ∙ e) in
+          let w = item_held (v - names) within (sym (ap (is_settled ranks) is) ∙ e) in
           (w.0, w.2)
     ]
 
     abbrev unsettled_at : ℕ → Bool
-    unsettled_at x = not (is_settled flags x)
+    unsettled_at x = not (is_settled ranks x)
 
-    unsettled_is : (x : ℕ) → unsettled_at x ≡ true → is_settled flags x ≡ false
-    unsettled_is x h = elim (cases_Bool (is_settled flags x)) [ inl e ↦ absurd (false≢true (sym (not_from_true (is_settled flags x) e) ∙ h)) | inr e ↦ e ]
+    unsettled_is : (x : ℕ) → unsettled_at x ≡ true → is_settled ranks x ≡ false
+    unsettled_is x h = elim (cases_Bool (is_settled ranks x)) [ inl e ↦ absurd (false≢true (sym (not_from_true (is_settled ranks x) e) ∙ h)) | inr e ↦ e ]
 
     no_least : (c : ℕ) → IsLeast (before_of os) unsettled_at names c → ⊥
     no_least c m =
         let w = behind c (record { name = m.within; unsettled = unsettled_is c m.among }) in
-        both_ways (before_of os w.by c) (m.least w.by w.still.name (not_from_false (is_settled flags w.by) w.still.unsettled)) (put_before os w.by c w.put)
+        both_ways (before_of os w.by c) (m.least w.by w.still.name (not_from_false (is_settled ranks w.by) w.still.unsettled)) (put_before os w.by c w.put)
 
     apart_from : orders_itself os ≡ false → (a : ℕ) → unsettled_at a ≡ true → before_of os a a ≡ false
     apart_from h a k = false_from_ne_true (before_of os a a) (λ p. both_ways (orders_itself os) h (loop_itself os a (before_chain os a a p)))
 
-    stuck : (x : ℕ) → Unsettled flags x → orders_itself os ≡ false → ⊥
+    stuck : (x : ℕ) → Unsettled ranks x → orders_itself os ≡ false → ⊥
     stuck x k h =
         elim (least_of (before_of os) unsettled_at (before_transitive os) (apart_from h) names) [
-          | inl n ↦ both_ways (unsettled_at x) (n x k.name) (not_from_false (is_settled flags x) k.unsettled)
+          | inl n ↦ both_ways (unsettled_at x) (n x k.name) (not_from_false (is_settled ranks x) k.unsettled)
           | inr m ↦ no_least m.0 m.1
         ]
 
-    held_cycle : (v : ℕ) × (v < length g) × (is_settled flags v ≡ false) → orders_itself os ≡ true
+    held_cycle : (v : ℕ) × (v < length g) × (is_settled ranks v ≡ false) → orders_itself os ≡ true
     held_cycle w =
         let k = some_unsettled w.0 w.1 w.2 in
         true_from_ne_false (orders_itself os) (stuck k.0 k.1)
 
-  put_last : (x y : ℕ) → Precedes os x y → x < names
-  put_last x y (one _ _ p) = put_name x y p
-  put_last x z (more _ y _ h p) = put_last x y h
+-- where all is settled, items agree with the ranks of the properties
+pub all_agree : (names : ℕ) (os : List Order) (g : List (List ℕ)) (found : Ranking) (r : Ranks) → AreNames names os → IsGraph names os g → IsRanking g found
+    → AreAll true found.ranks.items → r.table ≡ take names found.ranks.items → agree r os ≡ true
+all_agree names os g found r above graph k all e =
+    let n : length found.ranks.items ≡ length g = k.nodes in
+    agree_from r os (raised names os g graph above found.ranks.items k.ranked (λ v l. all v (omega (arith, n, l))) r e n)
 
-  settled_none : (flags : List Bool) → AreFounded g flags → ((v : ℕ) → v < length g → is_settled flags v ≡ true) → orders_itself os ≡ false
-  settled_none flags h all =
-      false_from_ne_true (orders_itself os) (λ e.
-      let w = itself_loop os e in
-      let name : w.0 < names = put_last w.0 w.0 w.1 in
-      let within : w.0 < length g = omega (arith, nodes) in
-      no_loop os w.0 ((ground w.0 (h w.0 (all w.0 within))).0 name) w.1)
-
-  answered : (flags : List Bool) (r : Bool) → length flags ≡ length g → AreFounded g flags → AreHeld g flags → AreAll r flags → not r ≡ orders_itself os
-  answered flags true e f k all = sym (settled_none flags f (λ v l. all v (omega arith)))
-  answered flags false e f k w = sym (held_cycle flags k (w.0, let l : w.0 < length flags = w.1 in omega arith, w.2))
-
-pub cyclic_is : (names : ℕ) (os : List Order) (g : List (List ℕ)) (flags : List Bool) (r : Bool) → AreNames names os → IsGraph names os g → length flags ≡ length g
-    → AreFounded g flags → AreHeld g flags → AreAll r flags → not r ≡ orders_itself os
-cyclic_is names os g flags r above graph e f h all = answered names os g graph above flags r e f h all
+-- and where one is not, they order a property before itself
+pub some_cycle : (names : ℕ) (os : List Order) (g : List (List ℕ)) (found : Ranking) → AreNames names os → IsGraph names os g → IsRanking g found
+    → AreHeld g found.ranks.items → AreAll false found.ranks.items → orders_itself os ≡ true
+some_cycle names os g found above graph k held w =
+    let n : length found.ranks.items ≡ length g = k.nodes in
+    let l : w.0 < length found.ranks.items = w.1 in
+    held_cycle names os g graph above found.ranks.items held (w.0, omega (arith, n, l), w.2)

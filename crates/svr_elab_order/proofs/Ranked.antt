@@ -1,5 +1,6 @@
 -- Where items agree with ranks, none orders a property before itself, and none is refused.
-use Rattle.std.proofs.Common.{◌≡◌, ℕ, ◌+◌, ◌<◌, Bool, true, false, ◌&&◌, ◌||◌, ◌==◌, nat_eq, nat_lt, nat_le, if◌then◌else◌, List, [], ◌∷◌, ◌++◌, length, take, get_or, Option, None, Some, refl, sym, ap, ◌∙◌, subst, arith, inl, inr, ⊎_elim, max}
+use Rattle.std.proofs.Common.{◌≡◌, ℕ, ◌+◌, ◌<◌, Bool, true, false, not, ◌&&◌, ◌||◌, ◌==◌, nat_eq, nat_lt, nat_le, if◌then◌else◌, List, [], ◌∷◌, ◌++◌, length, take, get_or, Option, None, Some, refl, sym, ap, ◌∙◌, subst, arith, inl, inr, ⊎_elim, max}
+use Rattle.std.specs.Prelude.{MatchOption, is_some}
 use Rattle.std.specs.List.{list_all}
 use Rattle.std.proofs.lemmas.Bool.{or_cases, or_left, or_right, and_parts, and_from, false≢true, false_from_ne_true, ltb-true, lt-ltb}
 use Rattle.std.proofs.lemmas.Bool.Decides.{nat_tests}
@@ -61,6 +62,13 @@ none_refused r xs ys h = no_cycles (xs ++ ys) xs ys refl (none_at_all (xs ++ ys)
 
 pub agree_joined : (r : Ranks) (xs ys : List Order) → agree r xs ≡ true → agree r ys ≡ true → agree r (xs ++ ys) ≡ true
 agree_joined r xs ys h k = list_all-append (is_ranked r) xs ys ∙ and_from (agree r xs) (agree r ys) h k
+
+-- there are such ranks exactly where they do not
+pub itself_is : (r : Option Ranks) (none : Bool) (os : List Order) → is_some r ≡ not none → MatchOption r (orders_itself os ≡ true) (λ ranks. agree ranks os ≡ true) → none ≡ orders_itself os
+itself_is None true os e h = sym h
+itself_is None false os e h = absurd (false≢true e)
+itself_is (Some r) true os e h = absurd (false≢true (sym e))
+itself_is (Some r) false os e h = sym (none_itself r os h)
 
 -- ---- and where each item raises it, they agree
 

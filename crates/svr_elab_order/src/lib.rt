@@ -4,17 +4,20 @@
 #![tactic(auto)]
 
 mod behind;
+mod find;
 mod flags;
 mod graph;
 mod law;
 mod order;
+mod ranking;
 mod ranks;
 mod refuse;
 mod search;
 mod settle;
 
 pub use behind::are_behind;
+pub use find::ranks_of;
 pub use law::{chains_are_as_worked_out, comes_by_items, keeps_the_first, loops_are_as_worked_out};
 pub use order::Order;
-pub use ranks::{Ranks, ranks_of};
+pub use ranks::Ranks;
 pub use refuse::cycle_fault;

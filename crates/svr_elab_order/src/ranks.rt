@@ -1,12 +1,12 @@
 // Ranks of properties that items agree with.
 
-ghost use Rattle.std.specs.Prelude.{◌≡◌, ℕ, List, true, slice_index_or, IfOk, IfSome};
+ghost use Rattle.std.specs.Prelude.{◌≡◌, ℕ, List};
 ghost use Rattle.svr_elab_order.specs.Ranks.{rank_of, is_higher, are_higher, goes_up, is_ranked, agree, higher};
 
 use crate::order::Order;
+use crate::ranking::rank_or;
 use sqlite_items::Items;
 use std::alloc::Global;
-use svr_typed::NoMemory;
 
 /// Ranks of properties by their numbers. A property whose number lies behind the table ranks above all of it, and by its number.
 #[derive(Drop)]
@@ -14,16 +14,6 @@ pub struct Ranks {
     pub(crate) table: Items<usize>,
     /// What such a property has for a rank beside its number.
     pub(crate) above: u32,
-}
-
-/// The rank at a place, or this one behind the table.
-fn rank_or(table: &[usize], place: usize, behind: usize) -> usize
-    ensures { result ≡ slice_index_or table.now place behind }
-{
-    match table.get(place) {
-        Some(rank) => *rank,
-        None => behind,
-    }
 }
 
 /// The higher of two ranks.
@@ -106,17 +96,5 @@ impl Ranks {
             }
         }
         true
-    }
-}
-
-/// Ranks that items agree with, where some are found.
-pub fn ranks_of(alloc: Global, orders: &[Order]) -> Result<Option<Ranks>, NoMemory>
-    ensures { IfOk result (λ r. IfSome r (λ ranks. agree ranks orders.now ≡ true)) }
-{
-    let ranks = Ranks::by_number(alloc);
-    if ranks.agree(orders) {
-        Ok(Some(ranks))
-    } else {
-        Ok(None)
     }
 }

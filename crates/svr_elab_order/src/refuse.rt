@@ -3,38 +3,21 @@
 ghost use Rattle.std.specs.Prelude.{◌≡◌, ◌<◌, Some, true, length, take, drop, IfOk};
 ghost use Rattle.svr_elab_fault.specs.Refusals.{first_one};
 ghost use Rattle.svr_elab_order.specs.Order.{orders_itself};
-ghost use Rattle.svr_elab_order.specs.Graph.{AreAll};
 ghost use Rattle.svr_elab_order.specs.Cycles.{cycles, IsFirstCycle, all_refused};
 
-use crate::graph::graph;
-use crate::order::{Order, names_past};
-use crate::settle::settle;
+use crate::find::ranks_of;
+use crate::order::Order;
 use std::alloc::Global;
 use svr_elab_fault::{Fault, earlier, when};
 use svr_refusal::Refusal;
 use svr_typed::NoMemory;
 
-/// Whether all nodes are settled.
-fn are_all(settled: &[bool]) -> bool
-    ensures { AreAll result settled.now }
-{
-    for flag in settled {
-        if !*flag {
-            return false;
-        }
-    }
-    true
-}
-
 /// Whether items order a property before itself.
-#[tactic(auto, using(crate::proofs::Loops::cyclic_is))]
 fn has_cycle(alloc: Global, orders: &[Order]) -> Result<bool, NoMemory>
     ensures { IfOk result (λ c. c ≡ orders_itself orders.now) }
 {
-    let names = names_past(orders);
-    let graph = graph(alloc, orders, names)?;
-    let settled = settle(alloc, graph.as_slice())?;
-    Ok(!are_all(settled.as_slice()))
+    let ranks = ranks_of(alloc, orders)?;
+    Ok(ranks.is_none())
 }
 
 /// How many of these items from the front it takes, more than `given`, to order a property before itself, as all of them do.

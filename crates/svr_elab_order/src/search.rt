@@ -1,9 +1,10 @@
 // The search back through a graph, depth first, in whose order nodes are settled.
 
-ghost use Rattle.std.specs.Prelude.{◌≡◌, ℕ, ◌<◌, false, true, [], length, replicate, slice_index_or, IfOk, IfSome};
-ghost use Rattle.svr_elab_order.specs.Graph.{AreFounded, right_before};
+ghost use Rattle.std.specs.Prelude.{◌≡◌, false, true, replicate, slice_index_or, IfOk, IfSome};
+ghost use Rattle.svr_elab_order.specs.Graph.{IsRanking};
 
-use crate::flags::{are_settled, mark, was_seen};
+use crate::flags::{mark, was_seen};
+use crate::ranking::{Ranking, is_ready, right_before, settle_next};
 use sqlite_items::Items;
 use std::alloc::Global;
 use svr_typed::NoMemory;
@@ -30,14 +31,13 @@ fn no_flags(alloc: Global, count: usize) -> Result<Vec<bool>, NoMemory>
     Ok(vec![in alloc; false; count]?)
 }
 
-/// The nodes right before a node.
-pub(crate) fn right_before(graph: &[Items<usize>], node: usize) -> &[usize]
-    ensures { result.now ≡ right_before graph.now node }
+/// No node is settled.
+fn none_settled(alloc: Global, count: usize) -> Result<Ranking, NoMemory>
+    ensures ranks { IfOk result (λ r. r.ranks.items ≡ replicate count 0) }
+    ensures last { IfOk result (λ r. r.last ≡ 0) }
 {
-    match graph.get(node) {
-        Some(nodes) => nodes.as_slice(),
-        None => &[],
-    }
+    let ranks = vec![in alloc; 0; count]?;
+    Ok(Ranking { ranks, last: 0 })
 }
 
 /// The first of these nodes that was not seen, from a place on.
@@ -57,13 +57,12 @@ fn next_unseen(nodes: &[usize], from: usize, seen: &[bool]) -> Option<Unseen>
 }
 
 /// Settles a node where all right before it are settled.
-fn leave(graph: &[Items<usize>], node: usize, settled: &mut Vec<bool>)
-    requires { AreFounded graph.now settled.old.items }
-    ensures founded { AreFounded graph.now settled.new.items }
-    ensures length { length settled.new.items ≡ length settled.old.items }
+fn leave(graph: &[Items<usize>], node: usize, ranking: &mut Ranking)
+    requires { IsRanking graph.now ranking.old }
+    ensures { IsRanking graph.now ranking.new }
 {
-    if are_settled(right_before(graph, node), settled.as_slice()) {
-        mark(settled, node);
+    if is_ready(graph, node, ranking.ranks.as_slice()) {
+        settle_next(ranking, node);
     }
 }
 
@@ -73,11 +72,10 @@ fn visit(
     graph: &[Items<usize>],
     root: usize,
     seen: &mut Vec<bool>,
-    settled: &mut Vec<bool>,
+    ranking: &mut Ranking,
 ) -> Result<(), NoMemory>
-    requires { AreFounded graph.now settled.old.items }
-    ensures founded { AreFounded graph.now settled.new.items }
-    ensures length { length settled.new.items ≡ length settled.old.items }
+    requires { IsRanking graph.now ranking.old }
+    ensures { IsRanking graph.now ranking.new }
 {
     let mut way = Items::new(alloc);
     way.push(Step {
@@ -101,24 +99,23 @@ fn visit(
                     looked_at: 0,
                 })?;
             }
-            None => leave(graph, step.node, settled),
+            None => leave(graph, step.node, ranking),
         }
     }
     Ok(())
 }
 
 /// Settles each node that all ways back from it have an end, as far as the search finds them.
-pub(crate) fn search(alloc: Global, graph: &[Items<usize>]) -> Result<Vec<bool>, NoMemory>
-    ensures length { IfOk result (λ f. length f.items ≡ length graph.now) }
-    ensures founded { IfOk result (λ f. AreFounded graph.now f.items) }
+pub(crate) fn search(alloc: Global, graph: &[Items<usize>]) -> Result<Ranking, NoMemory>
+    ensures { IfOk result (IsRanking graph.now) }
 {
-    let mut settled = no_flags(alloc, graph.len())?;
     let mut seen = no_flags(alloc, graph.len())?;
+    let mut ranking = none_settled(alloc, graph.len())?;
     for node in 0..graph.len() {
         if !was_seen(seen.as_slice(), node) {
             mark(&mut seen, node);
-            visit(alloc, graph, node, &mut seen, &mut settled)?;
+            visit(alloc, graph, node, &mut seen, &mut ranking)?;
         }
     }
-    Ok(settled)
+    Ok(ranking)
 }

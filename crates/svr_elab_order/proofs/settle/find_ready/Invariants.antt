@@ -3,4 +3,4 @@ use Rattle.svr_elab_order.specs.Graph.{is_settled, IsHeld}
 use Rattle.svr_elab_order.proofs.settle.find_ready.Given as goal
 
 abbrev pub invariant-loop-node : goal.invariant-loop-node
-invariant-loop-node l = (v : ℕ) → v < l.node → is_settled l.settled v ≡ false → IsHeld l.graph l.settled v
+invariant-loop-node l = (v : ℕ) → v < l.node → is_settled l.ranks v ≡ false → IsHeld l.graph l.ranks v
