@@ -1,5 +1,5 @@
 pub mod Ways
-pub mod Settling
+pub mod Seen
 pub mod Sources
 pub mod Loops
 pub mod Firsts

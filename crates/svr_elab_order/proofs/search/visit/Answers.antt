@@ -1,5 +1,5 @@
 use Rattle.std.proofs.Common.{true, sym, ◌∙◌, ap, get_or}
-use Rattle.svr_elab_order.proofs.Settling.{sooner}
+use Rattle.svr_elab_order.proofs.Seen.{sooner}
 use Rattle.svr_elab_order.proofs.search.visit.Goals as goal
 
 pub loop-step-smaller-in-Continue-branch-3 : goal.loop-step-smaller-in-Continue-branch-3

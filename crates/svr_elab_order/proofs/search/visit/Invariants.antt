@@ -1,6 +1,6 @@
 use Rattle.std.proofs.Common.{◌+◌, ◌*◌, length}
 use Rattle.svr_elab_order.specs.Graph.{IsRanking}
-use Rattle.svr_elab_order.proofs.Settling.{unmarked}
+use Rattle.svr_elab_order.proofs.Seen.{unmarked}
 use Rattle.svr_elab_order.proofs.search.visit.Given as goal
 
 abbrev pub invariant-loop-step : goal.invariant-loop-step
