@@ -207,8 +207,11 @@ many_here m text gs cs vs n e few =
     as_many : (n a b : ℕ) → n ≤ a → b ≡ a → n ≤ b
     as_many n a b h e = omega (arith, h, e)
 
-pub bodies_here : (m n : Space) (s : ScriptTree) (r : BodiesElab (Option Fault)) → r ≡ bodies first_one m (no_bodies first_one) 0 s.classes → m ≡ n → r ≡ bodies first_one n (no_bodies first_one) 0 s.classes
-bodies_here m n s r h e = h ∙ ap (λ (m : Space). bodies first_one m (no_bodies first_one) 0 s.classes) e
+pub bodies_here : (m n : Space) (s : ScriptTree) (r : (ℕ → List ℕ) → BodiesElab (Option Fault)) → r m.text ≡ bodies first_one m (no_bodies first_one) 0 s.classes → m ≡ n
+    → r n.text ≡ bodies first_one n (no_bodies first_one) 0 s.classes
+bodies_here m n s r h e =
+    let P : Space → Type 0 = λ n. r n.text ≡ bodies first_one n (no_bodies first_one) 0 s.classes in
+    subst P e h
 
 abbrev Ran : Space → List VarStand → UnitTree → StmtsPart → Type 0
 Ran m ks u p = stmts_part (run first_one m ks u).made p ≡ run first_one m ks u

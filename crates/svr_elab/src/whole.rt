@@ -184,25 +184,25 @@ fn listed_behind<'a>(
 
 /// What is known of the blocks and of the statements of a script.
 #[derive(Drop)]
-struct Walked {
-    bodies: BodiesPart,
+struct Walked<'a> {
+    bodies: BodiesPart<'a>,
     stmts: StmtsPart,
 }
 
 /// The blocks and the statements of a script. `stands`: what the variables of each declaration are; `names` has every name.
-fn walk(
+fn walk<'a>(
     alloc: Global,
     script: &Script,
     stands: &[VarStand],
-    names: &NameSpace<'_, '_>,
-) -> Result<Walked, NoMemory>
+    names: &NameSpace<'_, 'a>,
+) -> Result<Walked<'a>, NoMemory>
     requires classes { length script.now.classes ≤ length names.now.classes.now }
     requires vars { length names.now.vars.now.entries < 2 ^ 32 }
     requires loops { length names.now.loops.now ≡ 0 }
     requires members { MembersFit (space_of names.now) }
     requires blocks { BlocksFit (space_of names.now) }
     requires fits { ScriptFits (script_tree script.now) }
-    ensures bodies { IfOk result (λ w. bodies_part w.bodies ≡ blocks_spec.bodies first_one (space_of names.now) (blocks_spec.no_bodies first_one) 0 (script_tree script.now).classes) }
+    ensures bodies { IfOk result (λ w. bodies_part (names_of names.now.names) w.bodies ≡ blocks_spec.bodies first_one (space_of names.now) (blocks_spec.no_bodies first_one) 0 (script_tree script.now).classes) }
     ensures stmts { IfOk result (λ w. stmts_part (run_spec.run first_one (space_of names.now) stands.now (script_tree script.now).unit).made w.stmts ≡ run_spec.run first_one (space_of names.now) stands.now (script_tree script.now).unit) }
 {
     let bodies = class_bodies(alloc, script.classes.as_slice(), names)?;
@@ -219,14 +219,14 @@ fn walk_among<'a>(
     none: &NoNames<'a>,
     vars: &VarsPart<'a>,
     script: &Script,
-) -> Result<Walked, NoMemory>
+) -> Result<Walked<'a>, NoMemory>
     requires none { AreEmpty none.now }
     requires classes { length script.now.classes ≤ length classes.now }
     requires vars { length vars.now.vars.entries < 2 ^ 32 }
     requires members { MembersFit (vars_spec.stmt_space (declaring (names_of names) (map global_of globals.now.entries) (map class_of classes.now)) (map var_of vars.now.vars.entries)) }
     requires blocks { BlocksFit (vars_spec.stmt_space (declaring (names_of names) (map global_of globals.now.entries) (map class_of classes.now)) (map var_of vars.now.vars.entries)) }
     requires fits { ScriptFits (script_tree script.now) }
-    ensures bodies { IfOk result (λ w. bodies_part w.bodies ≡ blocks_spec.bodies first_one (vars_spec.stmt_space (declaring (names_of names.entry) (map global_of globals.now.entries) (map class_of classes.now)) (map var_of vars.now.vars.entries)) (blocks_spec.no_bodies first_one) 0 (script_tree script.now).classes) }
+    ensures bodies { IfOk result (λ w. bodies_part (names_of names.entry) w.bodies ≡ blocks_spec.bodies first_one (vars_spec.stmt_space (declaring (names_of names.entry) (map global_of globals.now.entries) (map class_of classes.now)) (map var_of vars.now.vars.entries)) (blocks_spec.no_bodies first_one) 0 (script_tree script.now).classes) }
     ensures stmts { IfOk result (λ w. stmts_part (run_spec.run first_one (vars_spec.stmt_space (declaring (names_of names.entry) (map global_of globals.now.entries) (map class_of classes.now)) (map var_of vars.now.vars.entries)) vars.now.stands (script_tree script.now).unit).made w.stmts ≡ run_spec.run first_one (vars_spec.stmt_space (declaring (names_of names.entry) (map global_of globals.now.entries) (map class_of classes.now)) (map var_of vars.now.vars.entries)) vars.now.stands (script_tree script.now).unit) }
 {
     let inside = whole_space(names, globals, classes, none, &vars.vars);

@@ -8,6 +8,7 @@ use Rattle.svr_tree.specs.DeclTree as decl
 use Rattle.svr_tree.specs.DeclTree.{BlockTree, ClassTree, ClassItemTree}
 use Rattle.svr_elab_fault.specs.declared.Fault.{Fault}
 use Rattle.svr_elab_fault.specs.Refusals.{first_one, earlier}
+use Rattle.svr_elab_fault.proofs.Least.{earlier_assoc}
 use Rattle.svr_elab_names.specs.declared.Region.TheVariants as region
 use Rattle.svr_elab_names.specs.Names.{Space, is_same}
 use Rattle.svr_elab_part.specs.Shapes.{and_more}
@@ -17,6 +18,7 @@ use Rattle.svr_elab_item.specs.declared.Around.{Around}
 use Rattle.svr_elab_item.specs.Items.{ItemsElab, items, no_items, outside}
 use Rattle.svr_elab_block.specs.Blocks as spec
 use Rattle.svr_elab_block.specs.Blocks.{BodyElab, BodiesElab}
+use Rattle.svr_elab_block.specs.Chain.{inherited, and_class}
 
 -- what is made is so by what is told of it
 pub told : {A E : Type 0} {P Q : A → Type 0} (r : Result A E) → IfOk r P → ((x : A) → P x → Q x) → IfOk r Q
@@ -70,17 +72,30 @@ pub block_is : (n : Space) (k : ℕ) (b : BodyElab (Option Fault)) (e : ItemsEla
     → (let s : BodyElab (Option Fault) = record { own = own; named = named; blocks = bs; orders = os; faults = f } in s) ≡ spec.with_block first_one b r (spec.orders n k b.orders js) e
 block_is n k b e q r is js own named bs os f is_q is_own is_named is_bs is_os is_is is_f = rw (is_f, is_os, is_is, is_bs, is_named, is_own, is_q) refl
 
--- the blocks of one more class
-pub body_is : (s : BodiesElab (Option Fault)) (inherited : List Order) (b : BodyElab (Option Fault)) (bs : Option (List (List BlockTerm))) (os : List (List Order)) (whole : List Order) (cycle a e : Option Fault)
-    → bs ≡ and_more s.blocks b.blocks → os ≡ s.orders ++ whole ∷ [] → whole ≡ inherited ++ b.orders → cycle ≡ cycles first_one inherited b.orders → a ≡ earlier b.faults cycle → e ≡ earlier s.faults a
-    → (let r : BodiesElab (Option Fault) = record { blocks = bs; orders = os; faults = e } in r) ≡ spec.and_body first_one s inherited b
-body_is s inherited b bs os whole cycle a e is_bs is_os is_whole is_cycle is_a is_e = rw (is_e, is_a, is_cycle, is_os, is_whole, is_bs) refl
+abbrev and_faults : Option (List (List BlockTerm)) → List (List Order) → Option Fault → BodiesElab (Option Fault)
+and_faults bs os f = record { blocks = bs; orders = os; faults = f }
 
-pub class_is : (n i : Space) (k : ℕ) (c : ClassTree) (s r : BodiesElab (Option Fault)) (b : BodyElab (Option Fault)) (os : List Order) (xs : List (List Order))
-    → r ≡ spec.and_body first_one s os b → os ≡ spec.without n.text b.named [] (spec.orders_at xs (spec.base_of (slice_get n.classes k))) → xs ≡ s.orders → b ≡ spec.body_items first_one i (spec.no_body first_one) c.items → i ≡ spec.in_class n region.Block k
+-- the blocks of one more class, and what is known of its orders
+pub known_is : (text : ℕ → List ℕ) (s : BodiesElab (Option Fault)) (base : Option ℕ) (b : BodyElab (Option Fault)) (bs : Option (List (List BlockTerm))) (os : List (List Order)) (cycle a e : Option Fault)
+    → bs ≡ and_more s.blocks b.blocks → os ≡ s.orders ++ (inherited text s.orders base b.named ++ b.orders) ∷ [] → a ≡ earlier s.faults b.faults → e ≡ earlier a cycle
+    → (let r : BodiesElab (Option Fault) = record { blocks = bs; orders = os; faults = e } in r) ≡ and_class text s base b cycle
+known_is text s base b bs os cycle a e is_bs is_os is_a is_e = rw (is_e, is_a, is_os, is_bs) refl
+
+-- and with the refusal that its own items have among those before
+pub body_is : (text : ℕ → List ℕ) (s r : BodiesElab (Option Fault)) (base : Option ℕ) (b : BodyElab (Option Fault)) (before cycle : Option Fault)
+    → r ≡ and_class text s base b cycle → before ≡ earlier s.faults b.faults → earlier before cycle ≡ earlier before (cycles first_one (inherited text s.orders base b.named) b.orders)
+    → r ≡ spec.and_body first_one s (inherited text s.orders base b.named) b
+body_is text s r base b before cycle h is_before is_cycle =
+    let refused : Option Fault = cycles first_one (inherited text s.orders base b.named) b.orders in
+    let faults : earlier (earlier s.faults b.faults) cycle ≡ earlier s.faults (earlier b.faults refused) =
+    ap (λ (f : Option Fault). earlier f cycle) (sym is_before) ∙ is_cycle ∙ ap (λ (f : Option Fault). earlier f refused) is_before ∙ earlier_assoc s.faults b.faults refused in
+    h ∙ ap (and_faults (and_more s.blocks b.blocks) (s.orders ++ (inherited text s.orders base b.named ++ b.orders) ∷ [])) faults
+
+pub class_is : (n i : Space) (k : ℕ) (c : ClassTree) (s r : BodiesElab (Option Fault)) (b : BodyElab (Option Fault)) (base : Option ℕ)
+    → r ≡ spec.and_body first_one s (inherited n.text s.orders base b.named) b → base ≡ spec.base_of (slice_get n.classes k) → b ≡ spec.body_items first_one i (spec.no_body first_one) c.items → i ≡ spec.in_class n region.Block k
     → r ≡ spec.with_class first_one n s k (spec.body first_one n k c)
-class_is n i k c s r b os xs h p x q e =
-    h ∙ ap (λ (os : List Order). spec.and_body first_one s os b) (p ∙ ap (λ (xs : List (List Order)). spec.without n.text b.named [] (spec.orders_at xs (spec.base_of (slice_get n.classes k)))) x)
+class_is n i k c s r b base h p q e =
+    h ∙ ap (λ (o : Option ℕ). spec.and_body first_one s (inherited n.text s.orders o b.named) b) p
     ∙ ap (λ (b : BodyElab (Option Fault)). spec.and_body first_one s (spec.inherited first_one n s k b) b)
     (q ∙ ap (λ (i : Space). spec.body_items first_one i (spec.no_body first_one) c.items) e)
 

@@ -1,4 +1,5 @@
 pub mod Blocks
+pub mod Chain
 pub mod Seen
 pub mod Fits
 pub mod Gathered

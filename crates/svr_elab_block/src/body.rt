@@ -1,6 +1,7 @@
 // The bodies of classes, in one pass.
 
-ghost use Rattle.std.specs.Prelude.{◌≡◌, ◌<◌, ◌≤◌, ◌^◌, length, map, option_map, IfOk, OnOk};
+ghost use Rattle.std.specs.Prelude.{◌≡◌, ◌<◌, ◌≤◌, ◌^◌, ◌++◌, ℕ, List, length, map, option_map, IfOk, OnOk};
+ghost use Rattle.std.specs.Rc.{rc_value};
 ghost use Rattle.svr_token.specs.Names.{names_of};
 ghost use Rattle.svr_typed.specs.ClassTerm.{block_term};
 ghost use Rattle.svr_tree.specs.ItemTree.{item_trees};
@@ -14,11 +15,14 @@ ghost use Rattle.svr_elab_part.specs.Fits.{MembersFit};
 ghost use Rattle.svr_elab_item.specs.Seen.{items_part};
 ghost use Rattle.svr_elab_item.specs.Fits.{ItemsFit, ItemsLoopsFit};
 ghost use Rattle.svr_elab_block.specs.Blocks as spec;
+ghost use Rattle.svr_elab_block.specs.Chain as chain_spec;
+ghost use Rattle.svr_elab_block.specs.Chain.{all_orders, AreRanks, AreRanked};
 ghost use Rattle.svr_elab_block.specs.Seen.{body_part, bodies_part};
 ghost use Rattle.svr_elab_block.specs.Fits.{ItemFits, BodyFits, BodiesFit};
 
-use crate::inherit::{inherited, is_among, with_name, with_own};
-use crate::part::{BodiesPart, BodyPart, no_body};
+use crate::cycle::{Verdict, of_own};
+use crate::inherit::{base_of, is_among, with_name};
+use crate::part::{BodiesPart, BodyPart, ClassOrders, no_body};
 use crate::place::in_class;
 use crate::solve::and_orders;
 use indexmap::IndexSet;
@@ -29,7 +33,6 @@ use svr_elab_fault::{Fault, earlier};
 use svr_elab_form::pushed;
 use svr_elab_item::{Around, ItemsPart};
 use svr_elab_names::{NameSpace, Region};
-use svr_elab_order::Order;
 use svr_elab_set::items;
 use svr_token::Names;
 use svr_tree::{ClassDecl, ClassItem, ConstraintBlock, Declarator};
@@ -202,22 +205,28 @@ fn body<'a>(
     Ok(part)
 }
 
-/// With the blocks of one more class, and what it inherits.
-fn and_body(
-    alloc: Global,
-    bodies: BodiesPart,
-    inherited: Items<Order>,
-    part: BodyPart<'_>,
-) -> Result<BodiesPart, NoMemory>
-    ensures { IfOk result (λ s. bodies_part s ≡ spec.and_body first_one (bodies_part bodies) inherited (body_part part.entry)) }
+/// With the blocks of one more class, and what is known of its orders.
+fn and_known<'a>(
+    bodies: BodiesPart<'a>,
+    base: Option<u32>,
+    part: BodyPart<'a>,
+    verdict: Verdict,
+) -> Result<BodiesPart<'a>, NoMemory>
+    ensures value { (text : ℕ → List ℕ) → IfOk result (λ s. bodies_part text s ≡ chain_spec.and_class text (bodies_part text bodies.entry) base (body_part part.entry) verdict.fault) }
+    ensures ranks { (text : ℕ → List ℕ) → AreRanked text bodies.entry.orders → AreRanks (option_map rc_value verdict.ranks) (chain_spec.inherited text (all_orders text bodies.entry.orders) base (body_part part.entry).named ++ part.entry.orders) → IfOk result (λ s. AreRanked text s.orders) }
 {
-    drop((part.own, part.named));
+    drop(part.own);
     let mut bodies = bodies;
     let blocks = and_more(&mut bodies.blocks, part.blocks);
-    let own = with_own(alloc, inherited, part.orders);
-    let (mut bodies, (_done, (all, cycle))) = beside(bodies, both(blocks, own))?;
-    let fault = earlier(bodies.fault, earlier(part.fault, cycle));
-    match bodies.orders.push(all) {
+    let class = ClassOrders {
+        base,
+        named: part.named,
+        own: part.orders,
+        ranks: verdict.ranks,
+    };
+    let (mut bodies, (class, _done)) = beside(bodies, beside(class, blocks))?;
+    let fault = earlier(earlier(bodies.fault, part.fault), verdict.fault);
+    match bodies.orders.push(class) {
         Ok(()) => Ok(BodiesPart { fault, ..bodies }),
         Err(_) => {
             drop(bodies);
@@ -226,47 +235,59 @@ fn and_body(
     }
 }
 
-/// With the body of the class of this number.
-fn and_class(
+/// With the blocks of one more class, whose base has this number.
+fn and_body<'a>(
     alloc: Global,
-    bodies: BodiesPart,
+    bodies: BodiesPart<'a>,
+    base: Option<u32>,
+    part: BodyPart<'a>,
+    names: Names<'_>,
+) -> Result<BodiesPart<'a>, NoMemory>
+    requires { AreRanked (names_of names) bodies.orders }
+    ensures value { IfOk result (λ s. bodies_part (names_of names.entry) s ≡ spec.and_body first_one (bodies_part (names_of names.entry) bodies.entry) (chain_spec.inherited (names_of names.entry) (all_orders (names_of names.entry) bodies.entry.orders) base (body_part part.entry).named) (body_part part.entry)) }
+    ensures ranks { IfOk result (λ s. AreRanked (names_of names.entry) s.orders) }
+{
+    let before = earlier(bodies.fault, part.fault);
+    let verdict = of_own(alloc, bodies.orders.as_slice(), base, &part, before, names);
+    let (bodies, (part, verdict)) = beside(bodies, beside(part, verdict))?;
+    and_known(bodies, base, part, verdict)
+}
+
+/// With the body of the class of this number.
+fn and_class<'a>(
+    alloc: Global,
+    bodies: BodiesPart<'a>,
     class: &ClassDecl,
     number: usize,
-    names: &NameSpace<'_, '_>,
-) -> Result<BodiesPart, NoMemory>
+    names: &NameSpace<'_, 'a>,
+) -> Result<BodiesPart<'a>, NoMemory>
     requires number { number < length names.now.classes.now }
     requires vars { length names.now.vars.now.entries < 2 ^ 32 }
     requires loops { length names.now.loops.now < 2 ^ 32 }
     requires members { MembersFit (space_of names.now) }
     requires fits { BodyFits (length names.now.loops.now) (map class_item_tree class.now.items) }
-    ensures { IfOk result (λ s. bodies_part s ≡ spec.with_class first_one (space_of names.now) (bodies_part bodies) number (spec.body first_one (space_of names.now) number (class_tree class.now))) }
+    requires ranks { AreRanked (names_of names.now.names) bodies.orders }
+    ensures value { IfOk result (λ s. bodies_part (names_of names.now.names) s ≡ spec.with_class first_one (space_of names.now) (bodies_part (names_of names.now.names) bodies.entry) number (spec.body first_one (space_of names.now) number (class_tree class.now))) }
+    ensures ranks { IfOk result (λ s. AreRanked (names_of names.now.names) s.orders) }
 {
     let inside = in_class(names, Region::Block, number);
     let (bodies, part) = beside(bodies, body(alloc, class, &inside))?;
-    let from_base = inherited(
-        alloc,
-        bodies.orders.as_slice(),
-        names.classes,
-        number,
-        &part.named,
-        names.names,
-    );
-    let (bodies, (part, from_base)) = beside(bodies, beside(part, from_base))?;
-    and_body(alloc, bodies, from_base, part)
+    let base = base_of(names.classes, number);
+    and_body(alloc, bodies, base, part, names.names)
 }
 
 /// What is known of the blocks of all classes, with their first refusal. `classes`: their declarations in order, whose numbers begin with 0. `names`: what names stand for outside of them.
-pub fn class_bodies(
+pub fn class_bodies<'a>(
     alloc: Global,
     classes: &[ClassDecl],
-    names: &NameSpace<'_, '_>,
-) -> Result<BodiesPart, NoMemory>
+    names: &NameSpace<'_, 'a>,
+) -> Result<BodiesPart<'a>, NoMemory>
     requires classes { length classes.now ≤ length names.now.classes.now }
     requires vars { length names.now.vars.now.entries < 2 ^ 32 }
     requires loops { length names.now.loops.now < 2 ^ 32 }
     requires members { MembersFit (space_of names.now) }
     requires fits { BodiesFit (length names.now.loops.now) (map class_tree classes.now) }
-    ensures { IfOk result (λ s. bodies_part s ≡ spec.bodies first_one (space_of names.now) (spec.no_bodies first_one) 0 (map class_tree classes.now)) }
+    ensures { IfOk result (λ s. bodies_part (names_of names.now.names) s ≡ spec.bodies first_one (space_of names.now) (spec.no_bodies first_one) 0 (map class_tree classes.now)) }
 {
     let mut bodies = BodiesPart::none(alloc);
     let mut number = 0;

@@ -1,22 +1,20 @@
-// What a class orders by the blocks that it inherits.
+// What a class orders by the blocks that it inherits: gathered from the class up, in the time that the items and the names of the blocks of all classes above it take together.
 
-ghost use Rattle.std.specs.Prelude.{◌≡◌, ◌++◌, [], map, IfOk, OnOk, slice_get};
+ghost use Rattle.std.specs.Prelude.{◌≡◌, ◌||◌, ◌++◌, ◌∷◌, ℕ, List, [], map, reverse, slice_get, IfOk, OnOk};
 ghost use Rattle.std.specs.List.{list_any};
 ghost use Rattle.svr_token.specs.Names.{names_of};
-ghost use Rattle.svr_elab_fault.specs.Refusals.{first_one};
 ghost use Rattle.svr_elab_names.specs.Names.{is_same};
 ghost use Rattle.svr_elab_names.specs.Tables.{bytes_of, class_of};
-ghost use Rattle.svr_elab_order.specs.Cycles.{cycles};
 ghost use Rattle.svr_elab_block.specs.Blocks as spec;
+ghost use Rattle.svr_elab_block.specs.Chain as chain_spec;
+ghost use Rattle.svr_elab_block.specs.Chain.{all_orders};
 
-use crate::solve::and_order;
+use crate::part::ClassOrders;
 use indexmap::IndexSet;
 use sqlite_items::Items;
 use std::alloc::Global;
-use svr_elab_expr::beside;
-use svr_elab_fault::Fault;
 use svr_elab_names::ClassNames;
-use svr_elab_order::{Order, cycle_fault};
+use svr_elab_order::Order;
 use svr_token::Names;
 use svr_typed::NoMemory;
 
@@ -38,6 +36,16 @@ pub(crate) fn with_name<'a>(names: &mut IndexSet<&'a [u8]>, name: &'a [u8]) -> R
     }
 }
 
+/// The class that a class extends.
+pub(crate) fn base_of(classes: &[ClassNames<'_>], class: usize) -> Option<u32>
+    ensures { result ≡ spec.base_of (slice_get (map class_of classes.now) class) }
+{
+    match classes.get(class) {
+        Some(class) => class.base,
+        None => None,
+    }
+}
+
 fn copied(alloc: Global, order: &Order) -> Result<Order, NoMemory>
     ensures { IfOk result (λ o. o ≡ order.now) }
 {
@@ -49,93 +57,152 @@ fn copied(alloc: Global, order: &Order) -> Result<Order, NoMemory>
     })
 }
 
-/// One more item, unless the class puts a block of its own in the place of its block.
+/// One more item, a copy.
+fn and_copy(alloc: Global, orders: &mut Vec<Order>, order: &Order) -> Result<(), NoMemory>
+    ensures { OnOk result (orders.new.items ≡ orders.old.items ++ order.now ∷ []) }
+{
+    match orders.push(copied(alloc, order)?) {
+        Ok(()) => Ok(()),
+        Err(_) => Err(NoMemory),
+    }
+}
+
+/// More items, copies of these.
+pub(crate) fn and_copies(
+    alloc: Global,
+    orders: &mut Vec<Order>,
+    more: &[Order],
+) -> Result<(), NoMemory>
+    ensures { OnOk result (orders.new.items ≡ orders.old.items ++ more.now) }
+{
+    for order in more {
+        and_copy(alloc, orders, order)?;
+    }
+    Ok(())
+}
+
+/// One more item, unless a block of one of these names takes the place of its block.
 fn and_kept(
     alloc: Global,
-    orders: &mut Items<Order>,
+    orders: &mut Vec<Order>,
     order: &Order,
     own: &IndexSet<&[u8]>,
     names: Names<'_>,
 ) -> Result<(), NoMemory>
-    ensures { OnOk result (orders.new ≡ spec.and_kept (names_of names.entry) (map bytes_of own.now.keys) orders.old order.now) }
+    ensures { OnOk result (orders.new.items ≡ spec.and_kept (names_of names.entry) (map bytes_of own.now.keys) orders.old.items order.now) }
 {
     if is_among(own, names.name(order.block)) {
         return Ok(());
     }
-    and_order(orders, Some(copied(alloc, order)?))
+    and_copy(alloc, orders, order)
 }
 
-/// What the base orders by blocks in whose place the class puts none.
-fn without(
+/// What stands of these items, from the last one back.
+fn and_back(
     alloc: Global,
-    base: &[Order],
+    back: &mut Vec<Order>,
+    orders: &[Order],
     own: &IndexSet<&[u8]>,
     names: Names<'_>,
-) -> Result<Items<Order>, NoMemory>
-    ensures { IfOk result (λ os. os ≡ spec.without (names_of names.entry) (map bytes_of own.now.keys) [] base.now) }
+) -> Result<(), NoMemory>
+    ensures { OnOk result (reverse back.new.items ≡ spec.without (names_of names.entry) (map bytes_of own.now.keys) [] orders.now ++ reverse back.old.items) }
 {
-    let mut orders = Items::new(alloc);
-    for order in base {
-        and_kept(alloc, &mut orders, order, own, names)?;
+    let mut left = orders.len();
+    while left > 0 {
+        left -= 1;
+        and_kept(alloc, back, &orders[left], own, names)?;
     }
-    Ok(orders)
+    Ok(())
 }
 
-/// The class that a class extends.
-fn base_of(classes: &[ClassNames<'_>], class: usize) -> Option<u32>
-    ensures { result ≡ spec.base_of (slice_get (map class_of classes.now) class) }
+/// What stands of a class' own items, from the last one back; nothing where there is no such class.
+fn and_class_back(
+    alloc: Global,
+    back: &mut Vec<Order>,
+    chain: &[ClassOrders<'_>],
+    class: u32,
+    own: &IndexSet<&[u8]>,
+    names: Names<'_>,
+) -> Result<(), NoMemory>
+    ensures { OnOk result (reverse back.new.items ≡ spec.without (names_of names.entry) (map bytes_of own.now.keys) [] (chain_spec.own_of (slice_get chain.now class)) ++ reverse back.old.items) }
 {
-    match classes.get(class) {
-        Some(class) => class.base,
+    match chain.get(class as usize) {
+        None => Ok(()),
+        Some(class) => and_back(alloc, back, class.own.as_slice(), own, names),
+    }
+}
+
+/// More names, each once.
+fn and_names<'a>(names: &mut IndexSet<&'a [u8]>, more: &[&'a [u8]]) -> Result<(), NoMemory>
+    ensures { OnOk result ((q : List ℕ) → list_any (is_same q) (map bytes_of names.new.keys) ≡ (list_any (is_same q) (map bytes_of names.old.keys) || list_any (is_same q) (map bytes_of more.now))) }
+{
+    for name in more {
+        with_name(names, *name)?;
+    }
+    Ok(())
+}
+
+/// The names of a class' own blocks too; none where there is no such class.
+fn and_class_names<'a>(
+    names: &mut IndexSet<&'a [u8]>,
+    chain: &[ClassOrders<'a>],
+    class: u32,
+) -> Result<(), NoMemory>
+    ensures { OnOk result ((q : List ℕ) → list_any (is_same q) (map bytes_of names.new.keys) ≡ (list_any (is_same q) (map bytes_of names.old.keys) || list_any (is_same q) (chain_spec.named_of (slice_get chain.now class)))) }
+{
+    match chain.get(class as usize) {
+        None => Ok(()),
+        Some(class) => and_names(names, class.named.as_slice()),
+    }
+}
+
+/// The base of a class, where it stands before the class.
+fn base_before(chain: &[ClassOrders<'_>], class: u32) -> Option<u32>
+    ensures { result ≡ chain_spec.base_before chain.now class }
+{
+    match chain.get(class as usize) {
+        Some(own) => match own.base {
+            Some(base) if base < class => Some(base),
+            Some(_) => None,
+            None => None,
+        },
         None => None,
     }
 }
 
-/// What a class inherits of what this base orders; nothing where there is none.
-fn inherited_of(
+/// What a class inherits of what its base orders, from the last item back. `own`: the names of its blocks.
+fn inherited_back<'a>(
     alloc: Global,
-    orders: &[Items<Order>],
+    chain: &[ClassOrders<'a>],
     base: Option<u32>,
-    own: &IndexSet<&[u8]>,
+    own: &IndexSet<&'a [u8]>,
     names: Names<'_>,
-) -> Result<Items<Order>, NoMemory>
-    ensures { IfOk result (λ os. os ≡ spec.without (names_of names.entry) (map bytes_of own.now.keys) [] (spec.orders_at orders.now base)) }
+) -> Result<Vec<Order>, NoMemory>
+    ensures { IfOk result (λ os. reverse os.items ≡ chain_spec.inherited (names_of names.entry) (all_orders (names_of names.entry) chain.now) base (map bytes_of own.now.keys)) }
 {
-    let Some(base) = base else {
-        return Ok(Items::new(alloc));
-    };
-    match orders.get(base as usize) {
-        None => Ok(Items::new(alloc)),
-        Some(orders) => without(alloc, orders.as_slice(), own, names),
+    let mut replaced = IndexSet::new(alloc);
+    and_names(&mut replaced, own.as_slice())?;
+    let mut back = Vec::new(alloc);
+    let mut next = base;
+    'up: while let Some(at) = next {
+        and_class_back(alloc, &mut back, chain, at, &replaced, names)?;
+        and_class_names(&mut replaced, chain, at)?;
+        next = base_before(chain, at);
     }
+    Ok(back)
 }
 
-/// What a class inherits of what its base orders.
-pub(crate) fn inherited(
+/// What a class inherits of what its base orders. `own`: the names of its blocks.
+pub(crate) fn inherited<'a>(
     alloc: Global,
-    orders: &[Items<Order>],
-    classes: &[ClassNames<'_>],
-    class: usize,
-    own: &IndexSet<&[u8]>,
+    chain: &[ClassOrders<'a>],
+    base: Option<u32>,
+    own: &IndexSet<&'a [u8]>,
     names: Names<'_>,
-) -> Result<Items<Order>, NoMemory>
-    ensures { IfOk result (λ os. os ≡ spec.without (names_of names.entry) (map bytes_of own.now.keys) [] (spec.orders_at orders.now (spec.base_of (slice_get (map class_of classes.now) class)))) }
+) -> Result<Vec<Order>, NoMemory>
+    ensures { IfOk result (λ os. os.items ≡ chain_spec.inherited (names_of names.entry) (all_orders (names_of names.entry) chain.now) base (map bytes_of own.now.keys)) }
 {
-    inherited_of(alloc, orders, base_of(classes, class), own, names)
-}
-
-/// What a class orders in all, and the refusal of the first of its own items with which it orders a property before itself.
-pub(crate) fn with_own(
-    alloc: Global,
-    inherited: Items<Order>,
-    own: Items<Order>,
-) -> Result<(Items<Order>, Option<Fault>), NoMemory>
-    ensures orders { IfOk result (λ r. r.0 ≡ inherited ++ own) }
-    ensures fault { IfOk result (λ r. r.1 ≡ cycles first_one inherited own) }
-{
-    let given = inherited.len();
-    let mut orders = inherited;
-    orders.append(own)?;
-    let fault = cycle_fault(alloc, orders.as_slice(), given);
-    beside(orders, fault)
+    let mut back = inherited_back(alloc, chain, base, own, names)?;
+    back.reverse();
+    Ok(back)
 }

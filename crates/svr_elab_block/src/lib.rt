@@ -4,6 +4,7 @@
 #![tactic(auto)]
 
 mod body;
+mod cycle;
 mod examples;
 mod inherit;
 mod law;
@@ -17,5 +18,5 @@ pub use examples::{
     names_are_as_worked_out,
 };
 pub use law::keeps_the_first;
-pub use part::BodiesPart;
+pub use part::{BodiesPart, ClassOrders};
 pub use place::in_line;

@@ -1,15 +1,17 @@
 // What is known of blocks.
 
-ghost use Rattle.std.specs.Prelude.{◌≡◌};
+ghost use Rattle.std.specs.Prelude.{◌≡◌, ℕ, List};
 ghost use Rattle.svr_elab_fault.specs.Refusals.{first_one};
 ghost use Rattle.svr_elab_block.specs.Blocks as spec;
+ghost use Rattle.svr_elab_block.specs.Chain.{AreRanked};
 ghost use Rattle.svr_elab_block.specs.Seen.{body_part, bodies_part};
 
 use indexmap::IndexSet;
 use sqlite_items::Items;
 use std::alloc::Global;
+use std::rc::Rc;
 use svr_elab_fault::Fault;
-use svr_elab_order::Order;
+use svr_elab_order::{Order, Ranks};
 use svr_typed::TBlock;
 
 /// What is known of the blocks of one class so far.
@@ -26,13 +28,26 @@ pub(crate) struct BodyPart<'a> {
     pub fault: Option<Fault>,
 }
 
+/// What one class orders: by its own items, and as its base does.
+#[derive(Drop)]
+pub struct ClassOrders<'a> {
+    /// The number of its base.
+    pub base: Option<u32>,
+    /// The names of its own blocks, which stand in the place of inherited ones.
+    pub named: IndexSet<&'a [u8]>,
+    /// What its own blocks order.
+    pub own: Items<Order>,
+    /// Ranks that all that it orders agrees with, where they are known: those of its base as long as they do.
+    pub ranks: Option<Rc<Ranks>>,
+}
+
 /// What is known of the blocks of classes.
 #[derive(Drop)]
-pub struct BodiesPart {
+pub struct BodiesPart<'a> {
     /// The typed blocks that each class declares itself, where all are known.
     pub blocks: Option<Items<Items<TBlock>>>,
-    /// What the `solve` items of each class order, the inherited ones among them.
-    pub orders: Items<Items<Order>>,
+    /// What the `solve` items of each class order.
+    pub orders: Items<ClassOrders<'a>>,
     pub fault: Option<Fault>,
 }
 
@@ -49,10 +64,11 @@ pub(crate) fn no_body<'a>(alloc: Global) -> BodyPart<'a>
     }
 }
 
-impl BodiesPart {
+impl<'a> BodiesPart<'a> {
     /// No classes.
-    pub(crate) fn none(alloc: Global) -> BodiesPart
-        ensures { bodies_part result ≡ spec.no_bodies first_one }
+    pub(crate) fn none(alloc: Global) -> BodiesPart<'a>
+        ensures value { (text : ℕ → List ℕ) → bodies_part text result ≡ spec.no_bodies first_one }
+        ensures ranks { (text : ℕ → List ℕ) → AreRanked text result.orders }
     {
         BodiesPart {
             blocks: Some(Items::new(alloc)),

@@ -50,6 +50,6 @@ returns c =
     let again = ap (map class_of) (c.as_slice.ensures ∙ y.ensures.held) ∙ (rw made at c.with_random-classes.ensures) in
     let space : stmt_space (declaring text (map global_of x.globals.entries) list) vs ≡ stmt_space (declaring text gs cs) vs = rw globals (marked_space _ text gs list cs vs refl marked) in
     whole_is (stmt_space (declaring text (map global_of x.globals.entries) list) vs) (stmt_space (declaring text gs cs) vs) (globals_part text c.args.known) (vars_part c.args.vars.now) (script_tree c.args.script.now)
-    _ (bodies_part y.walked.bodies) (stmts_part _ y.walked.stmts) _ _ (map class_of c.as_slice.result.now) _
+    _ (bodies_part text y.walked.bodies) (stmts_part _ y.walked.stmts) _ _ (map class_of c.as_slice.result.now) _
     space refl (rw walked at c.walk_among-walked.ensures.bodies) (rw walked at c.walk_among-walked.ensures.stmts)
     c.label_fault-label.ensures c.all_faults-fault.ensures again (rw enums at (rw z.ensures.made at c.design_of-design.ensures))

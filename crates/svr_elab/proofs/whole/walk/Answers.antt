@@ -1,5 +1,6 @@
 use Rattle.svr_tree.specs.DeclTree.{var_tree}
 use Rattle.std.proofs.Common.{map}
+use Rattle.svr_token.specs.Names.{names_of}
 use Rattle.svr_elab_names.specs.Tables.{space_of}
 use Rattle.svr_elab_block.specs.Seen.{bodies_part}
 use Rattle.svr_elab.proofs.Joined.{as_many_as, bodies_are, bodies_there, values_there, stmts_there}
@@ -24,4 +25,4 @@ pub run-requires-clause-fits : goal.run-requires-clause-fits
 run-requires-clause-fits c = stmts_there _ c.args.script.now.unit.stmts c.requires.loops c.requires.fits.the_unit.all_stmts
 
 pub returns-clause-bodies : goal.returns-clause-bodies
-returns-clause-bodies c = bodies_are (space_of c.args.names.now) (bodies_part c.in_ok-bodies.bodies) _ c.args.script.now.classes c.in_ok-bodies.ensures c.as_slice.ensures
+returns-clause-bodies c = bodies_are (space_of c.args.names.now) (bodies_part (names_of c.args.names.now.names) c.in_ok-bodies.bodies) _ c.args.script.now.classes c.in_ok-bodies.ensures c.as_slice.ensures

@@ -20,7 +20,7 @@ walk-requires-clause-classes c =
 
 pub returns-clause-bodies : goal.returns-clause-bodies
 returns-clause-bodies c =
-    bodies_here (space_of c.whole_space-inside.result) _ (script_tree c.args.script.now) (bodies_part c.in_ok-all.all.bodies) c.in_ok-all.ensures.bodies c.whole_space-inside.ensures.space
+    bodies_here (space_of c.whole_space-inside.result) _ (script_tree c.args.script.now) (λ text. bodies_part text c.in_ok-all.all.bodies) c.in_ok-all.ensures.bodies c.whole_space-inside.ensures.space
 
 pub returns-clause-stmts : goal.returns-clause-stmts
 returns-clause-stmts c =

@@ -1,18 +1,38 @@
-use Rattle.std.proofs.Common.{◌≡◌, Ok, map, option_map, ap, ◌∙◌}
-use Rattle.svr_typed.specs.ClassTerm.{block_terms}
-use Rattle.svr_elab_fault.specs.Refusals.{earlier}
-use Rattle.svr_elab_block.specs.declared.part.BodiesPart.{BodiesPart}
+use Rattle.std.proofs.Common.{◌≡◌, ◌++◌, List, Ok, option_map, sym, subst}
+use Rattle.std.specs.Rc.{rc_value}
+use Rattle.svr_token.specs.Names.{names_of}
+use Rattle.svr_elab_fault.specs.Refusals.{first_one, earlier}
+use Rattle.svr_elab_order.specs.Cycles.{cycles}
+use Rattle.svr_elab_block.specs.declared.part.ClassOrders.{ClassOrders}
+use Rattle.svr_elab_block.specs.Chain.{inherited, all_orders, AreRanks, AreRanked}
 use Rattle.svr_elab_block.specs.Seen.{body_part, bodies_part}
-use Rattle.svr_elab_block.proofs.Forms.{more_seen, body_is}
+use Rattle.svr_elab_block.proofs.Forms.{told, body_is}
 use Rattle.svr_elab_block.proofs.body.and_body.Goals as goal
 
-pub returns-in-Ok : goal.returns-in-Ok
-returns-in-Ok c =
+pub of_own-verdict-requires : goal.of_own-verdict-requires
+of_own-verdict-requires c = subst (AreRanked (names_of c.args.names)) (sym c.as_slice.ensures) c.requires
+
+pub returns-clause-value : goal.returns-clause-value
+returns-clause-value c =
+    let text = names_of c.args.names in
     let x = c.in_ok-bodies in
-    let held = x.ensures.held in
-    let own : c.with_own-own.result ≡ Ok (x.all, x.cycle) = rw x.ensures.made at c.both.ensures.second in
-    rw held
-    (body_is (bodies_part c.args.bodies) c.args.inherited (body_part c.args.part) _ _ x.all x.cycle _ _
-    (ap (option_map (map block_terms)) (rw (rw x.ensures.made at c.both.ensures.first) at c.and_more-blocks.ensures) ∙ more_seen block_terms c.args.bodies.blocks c.args.part.blocks)
-    (rw held at c.in-Ok.ensures.ok) (rw own at c.with_own-own.ensures.orders) (rw own at c.with_own-own.ensures.fault) c.earlier.ensures
-    (c.earlier-fault.ensures ∙ ap (λ (s : BodiesPart). earlier s.fault c.earlier.result) held))
+    let b = body_part c.args.part in
+    let part : x.part ≡ c.args.part = rw x.ensures.made at c.beside.ensures.held in
+    let verdict : c.of_own-verdict.result ≡ Ok x.verdict = rw x.ensures.made at c.beside.ensures.made in
+    let P : List ClassOrders → Type 0 = λ cs.
+    earlier c.earlier-before.result x.verdict.fault ≡ earlier c.earlier-before.result (cycles first_one (inherited text (all_orders text cs) c.args.base b.named) b.orders) in
+    told c.and_known.result (c.and_known.ensures.value text)
+    (λ s is.
+    body_is text (bodies_part text c.args.bodies) (bodies_part text s) c.args.base b c.earlier-before.result x.verdict.fault
+    (rw (part, x.ensures.held) at is) c.earlier-before.ensures (subst P c.as_slice.ensures (rw verdict at c.of_own-verdict.ensures.fault)))
+
+pub returns-clause-ranks : goal.returns-clause-ranks
+returns-clause-ranks c =
+    let text = names_of c.args.names in
+    let x = c.in_ok-bodies in
+    let part : x.part ≡ c.args.part = rw x.ensures.made at c.beside.ensures.held in
+    let verdict : c.of_own-verdict.result ≡ Ok x.verdict = rw x.ensures.made at c.beside.ensures.made in
+    let b = body_part c.args.part in
+    let P : List ClassOrders → Type 0 = λ cs. AreRanks (option_map rc_value x.verdict.ranks) (inherited text (all_orders text cs) c.args.base b.named ++ b.orders) in
+    let ranks : P c.args.bodies.orders = subst P c.as_slice.ensures (rw verdict at c.of_own-verdict.ensures.ranks) in
+    rw (part, x.ensures.held) at c.and_known.ensures.ranks text c.requires ranks

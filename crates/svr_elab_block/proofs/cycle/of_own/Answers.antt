@@ -1,0 +1,37 @@
+use Rattle.std.proofs.Common.{◌≡◌, true, map, option_map, rules}
+use Rattle.std.specs.Rc.{rc_value}
+use Rattle.svr_token.specs.Names.{names_of}
+use Rattle.svr_elab_names.specs.Tables.{bytes_of}
+use Rattle.svr_elab_order.specs.Ranks.{are_behind}
+use Rattle.svr_elab_block.specs.Chain.{inherited, all_orders, is_agreed, AreRanks}
+use Rattle.svr_elab_block.specs.Blocks.{orders_at}
+use Rattle.svr_elab_block.proofs.Agreed.{at_ok, agreed, none_told, for_inherited, behind_told}
+use Rattle.svr_elab_block.proofs.cycle.of_own.Goals as goal
+
+pub returns-then-do_agree-clause-ranks : goal.returns-then-do_agree-clause-ranks
+returns-then-do_agree-clause-ranks c =
+    let text = names_of c.args.names in
+    let done = all_orders text c.args.chain.now in
+    let named = map bytes_of c.args.part.now.named.keys in
+    let r = option_map rc_value c.in_ok-ranks.ranks in
+    let os = c.args.part.now.orders in
+    let h : AreRanks r (orders_at done c.args.base) = at_ok (λ ranks. AreRanks (option_map rc_value ranks) (orders_at done c.args.base)) c.inherited_ranks.result c.in_ok-ranks.ranks c.in_ok-ranks.was (c.inherited_ranks.ensures text c.requires) in
+    let k : is_agreed r os ≡ true = search rules in
+    agreed r (inherited text done c.args.base named) os (for_inherited text r done c.args.base named h) k
+
+pub returns-then-do_agree-clause-fault : goal.returns-then-do_agree-clause-fault
+returns-then-do_agree-clause-fault c =
+    let text = names_of c.args.names in
+    let done = all_orders text c.args.chain.now in
+    let named = map bytes_of c.args.part.now.named.keys in
+    let r = option_map rc_value c.in_ok-ranks.ranks in
+    let os = c.args.part.now.orders in
+    let h : AreRanks r (orders_at done c.args.base) = at_ok (λ ranks. AreRanks (option_map rc_value ranks) (orders_at done c.args.base)) c.inherited_ranks.result c.in_ok-ranks.ranks c.in_ok-ranks.was (c.inherited_ranks.ensures text c.requires) in
+    let k : is_agreed r os ≡ true = search rules in
+    none_told r (inherited text done c.args.base named) os (for_inherited text r done c.args.base named h) k c.args.before
+
+pub returns-then-are_behind-clause-fault : goal.returns-then-are_behind-clause-fault
+returns-then-are_behind-clause-fault c =
+    let text = names_of c.args.names in
+    let h : are_behind c.args.before c.args.part.now.orders ≡ true = search rules in
+    behind_told c.args.before (inherited text (all_orders text c.args.chain.now) c.args.base (map bytes_of c.args.part.now.named.keys)) c.args.part.now.orders h
