@@ -20,7 +20,7 @@ ghost use Rattle.svr_elab_block.specs.Chain.{all_orders, AreRanks, AreRanked};
 ghost use Rattle.svr_elab_block.specs.Seen.{body_part, bodies_part};
 ghost use Rattle.svr_elab_block.specs.Fits.{ItemFits, BodyFits, BodiesFit};
 
-use crate::cycle::{Verdict, of_own};
+use crate::cycle::{CycleCheck, of_own};
 use crate::inherit::{base_of, is_among, with_name};
 use crate::part::{BodiesPart, BodyPart, ClassOrders, no_body};
 use crate::place::in_class;
@@ -210,10 +210,10 @@ fn and_known<'a>(
     bodies: BodiesPart<'a>,
     base: Option<u32>,
     part: BodyPart<'a>,
-    verdict: Verdict,
+    check: CycleCheck,
 ) -> Result<BodiesPart<'a>, NoMemory>
-    ensures value { (text : ℕ → List ℕ) → IfOk result (λ s. bodies_part text s ≡ chain_spec.and_class text (bodies_part text bodies.entry) base (body_part part.entry) verdict.fault) }
-    ensures ranks { (text : ℕ → List ℕ) → AreRanked text bodies.entry.orders → AreRanks (option_map rc_value verdict.ranks) (chain_spec.inherited text (all_orders text bodies.entry.orders) base (body_part part.entry).named ++ part.entry.orders) → IfOk result (λ s. AreRanked text s.orders) }
+    ensures value { (text : ℕ → List ℕ) → IfOk result (λ s. bodies_part text s ≡ chain_spec.and_class text (bodies_part text bodies.entry) base (body_part part.entry) check.fault) }
+    ensures ranks { (text : ℕ → List ℕ) → AreRanked text bodies.entry.orders → AreRanks (option_map rc_value check.ranks) (chain_spec.inherited text (all_orders text bodies.entry.orders) base (body_part part.entry).named ++ part.entry.orders) → IfOk result (λ s. AreRanked text s.orders) }
 {
     drop(part.own);
     let mut bodies = bodies;
@@ -222,10 +222,10 @@ fn and_known<'a>(
         base,
         named: part.named,
         own: part.orders,
-        ranks: verdict.ranks,
+        ranks: check.ranks,
     };
     let (mut bodies, (class, _done)) = beside(bodies, beside(class, blocks))?;
-    let fault = earlier(earlier(bodies.fault, part.fault), verdict.fault);
+    let fault = earlier(earlier(bodies.fault, part.fault), check.fault);
     match bodies.orders.push(class) {
         Ok(()) => Ok(BodiesPart { fault, ..bodies }),
         Err(_) => {
@@ -248,9 +248,9 @@ fn and_body<'a>(
     ensures ranks { IfOk result (λ s. AreRanked (names_of names.entry) s.orders) }
 {
     let before = earlier(bodies.fault, part.fault);
-    let verdict = of_own(alloc, bodies.orders.as_slice(), base, &part, before, names);
-    let (bodies, (part, verdict)) = beside(bodies, beside(part, verdict))?;
-    and_known(bodies, base, part, verdict)
+    let check = of_own(alloc, bodies.orders.as_slice(), base, &part, before, names);
+    let (bodies, (part, check)) = beside(bodies, beside(part, check))?;
+    and_known(bodies, base, part, check)
 }
 
 /// With the body of the class of this number.

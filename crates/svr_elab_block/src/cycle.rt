@@ -22,7 +22,7 @@ use svr_typed::NoMemory;
 
 /// Ranks that items agree with, where they are known, and the first refusal of an item that closes a cycle.
 #[derive(Drop)]
-pub(crate) struct Verdict {
+pub(crate) struct CycleCheck {
     pub ranks: Option<Rc<Ranks>>,
     pub fault: Option<Fault>,
 }
@@ -75,18 +75,18 @@ fn do_agree(ranks: &Option<Rc<Ranks>>, orders: &[Order]) -> bool
 }
 
 /// What is known of items by looking at all of them, of which the first `given` are inherited.
-fn of_all(alloc: Global, orders: &[Order], given: usize) -> Result<Verdict, NoMemory>
+fn of_all(alloc: Global, orders: &[Order], given: usize) -> Result<CycleCheck, NoMemory>
     ensures ranks { IfOk result (λ v. AreRanks (option_map rc_value v.ranks) orders.now) }
     ensures fault { IfOk result (λ v. v.fault ≡ cycles first_one (take given orders.now) (drop given orders.now)) }
 {
     match ranks_of(alloc, orders)? {
         Some(ranks) => {
             let ranks = owned(alloc, ranks)?;
-            Ok(Verdict { ranks, fault: None })
+            Ok(CycleCheck { ranks, fault: None })
         }
         None => {
             let fault = cycle_fault(alloc, orders, given)?;
-            Ok(Verdict { ranks: None, fault })
+            Ok(CycleCheck { ranks: None, fault })
         }
     }
 }
@@ -98,7 +98,7 @@ fn of_class(
     base: Option<u32>,
     part: &BodyPart<'_>,
     names: Names<'_>,
-) -> Result<Verdict, NoMemory>
+) -> Result<CycleCheck, NoMemory>
     ensures ranks { IfOk result (λ v. AreRanks (option_map rc_value v.ranks) (chain_spec.inherited (names_of names.entry) (all_orders (names_of names.entry) chain.now) base (map bytes_of part.now.named.keys) ++ part.now.orders)) }
     ensures fault { IfOk result (λ v. v.fault ≡ cycles first_one (chain_spec.inherited (names_of names.entry) (all_orders (names_of names.entry) chain.now) base (map bytes_of part.now.named.keys)) part.now.orders) }
 {
@@ -116,18 +116,18 @@ pub(crate) fn of_own(
     part: &BodyPart<'_>,
     before: Option<Fault>,
     names: Names<'_>,
-) -> Result<Verdict, NoMemory>
+) -> Result<CycleCheck, NoMemory>
     requires { AreRanked (names_of names) chain.now }
     ensures ranks { IfOk result (λ v. AreRanks (option_map rc_value v.ranks) (chain_spec.inherited (names_of names.entry) (all_orders (names_of names.entry) chain.now) base (map bytes_of part.now.named.keys) ++ part.now.orders)) }
     ensures fault { IfOk result (λ v. faults.earlier before v.fault ≡ faults.earlier before (cycles first_one (chain_spec.inherited (names_of names.entry) (all_orders (names_of names.entry) chain.now) base (map bytes_of part.now.named.keys)) part.now.orders)) }
 {
     let ranks = inherited_ranks(alloc, chain, base)?;
     if do_agree(&ranks, part.orders.as_slice()) {
-        return Ok(Verdict { ranks, fault: None });
+        return Ok(CycleCheck { ranks, fault: None });
     }
     drop(ranks);
     if are_behind(before, part.orders.as_slice()) {
-        return Ok(Verdict {
+        return Ok(CycleCheck {
             ranks: None,
             fault: None,
         });

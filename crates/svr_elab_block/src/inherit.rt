@@ -133,7 +133,7 @@ fn and_class_back(
 }
 
 /// More names, each once.
-fn and_names<'a>(names: &mut IndexSet<&'a [u8]>, more: &[&'a [u8]]) -> Result<(), NoMemory>
+fn with_names<'a>(names: &mut IndexSet<&'a [u8]>, more: &[&'a [u8]]) -> Result<(), NoMemory>
     ensures { OnOk result ((q : List ℕ) → list_any (is_same q) (map bytes_of names.new.keys) ≡ (list_any (is_same q) (map bytes_of names.old.keys) || list_any (is_same q) (map bytes_of more.now))) }
 {
     for name in more {
@@ -152,7 +152,7 @@ fn and_class_names<'a>(
 {
     match chain.get(class as usize) {
         None => Ok(()),
-        Some(class) => and_names(names, class.named.as_slice()),
+        Some(class) => with_names(names, class.named.as_slice()),
     }
 }
 
@@ -181,7 +181,7 @@ fn inherited_back<'a>(
     ensures { IfOk result (λ os. reverse os.items ≡ chain_spec.inherited (names_of names.entry) (all_orders (names_of names.entry) chain.now) base (map bytes_of own.now.keys)) }
 {
     let mut replaced = IndexSet::new(alloc);
-    and_names(&mut replaced, own.as_slice())?;
+    with_names(&mut replaced, own.as_slice())?;
     let mut back = Vec::new(alloc);
     let mut next = base;
     'up: while let Some(at) = next {

@@ -9,8 +9,8 @@ use Rattle.svr_elab_block.specs.Seen.{body_part, bodies_part}
 use Rattle.svr_elab_block.proofs.Forms.{told, body_is}
 use Rattle.svr_elab_block.proofs.body.and_body.Goals as goal
 
-pub of_own-verdict-requires : goal.of_own-verdict-requires
-of_own-verdict-requires c = subst (AreRanked (names_of c.args.names)) (sym c.as_slice.ensures) c.requires
+pub of_own-check-requires : goal.of_own-check-requires
+of_own-check-requires c = subst (AreRanked (names_of c.args.names)) (sym c.as_slice.ensures) c.requires
 
 pub returns-clause-value : goal.returns-clause-value
 returns-clause-value c =
@@ -18,21 +18,21 @@ returns-clause-value c =
     let x = c.in_ok-bodies in
     let b = body_part c.args.part in
     let part : x.part ≡ c.args.part = rw x.ensures.made at c.beside.ensures.held in
-    let verdict : c.of_own-verdict.result ≡ Ok x.verdict = rw x.ensures.made at c.beside.ensures.made in
+    let check : c.of_own-check.result ≡ Ok x.check = rw x.ensures.made at c.beside.ensures.made in
     let P : List ClassOrders → Type 0 = λ cs.
-    earlier c.earlier-before.result x.verdict.fault ≡ earlier c.earlier-before.result (cycles first_one (inherited text (all_orders text cs) c.args.base b.named) b.orders) in
+    earlier c.earlier-before.result x.check.fault ≡ earlier c.earlier-before.result (cycles first_one (inherited text (all_orders text cs) c.args.base b.named) b.orders) in
     told c.and_known.result (c.and_known.ensures.value text)
     (λ s is.
-    body_is text (bodies_part text c.args.bodies) (bodies_part text s) c.args.base b c.earlier-before.result x.verdict.fault
-    (rw (part, x.ensures.held) at is) c.earlier-before.ensures (subst P c.as_slice.ensures (rw verdict at c.of_own-verdict.ensures.fault)))
+    body_is text (bodies_part text c.args.bodies) (bodies_part text s) c.args.base b c.earlier-before.result x.check.fault
+    (rw (part, x.ensures.held) at is) c.earlier-before.ensures (subst P c.as_slice.ensures (rw check at c.of_own-check.ensures.fault)))
 
 pub returns-clause-ranks : goal.returns-clause-ranks
 returns-clause-ranks c =
     let text = names_of c.args.names in
     let x = c.in_ok-bodies in
     let part : x.part ≡ c.args.part = rw x.ensures.made at c.beside.ensures.held in
-    let verdict : c.of_own-verdict.result ≡ Ok x.verdict = rw x.ensures.made at c.beside.ensures.made in
+    let check : c.of_own-check.result ≡ Ok x.check = rw x.ensures.made at c.beside.ensures.made in
     let b = body_part c.args.part in
-    let P : List ClassOrders → Type 0 = λ cs. AreRanks (option_map rc_value x.verdict.ranks) (inherited text (all_orders text cs) c.args.base b.named ++ b.orders) in
-    let ranks : P c.args.bodies.orders = subst P c.as_slice.ensures (rw verdict at c.of_own-verdict.ensures.ranks) in
+    let P : List ClassOrders → Type 0 = λ cs. AreRanks (option_map rc_value x.check.ranks) (inherited text (all_orders text cs) c.args.base b.named ++ b.orders) in
+    let ranks : P c.args.bodies.orders = subst P c.as_slice.ensures (rw check at c.of_own-check.ensures.ranks) in
     rw (part, x.ensures.held) at c.and_known.ensures.ranks text c.requires ranks

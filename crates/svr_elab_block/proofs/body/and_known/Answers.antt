@@ -12,7 +12,7 @@ returns-in-Ok-clause-value c text =
     let x = c.in_ok-bodies in
     let held = x.ensures.held in
     let done : c.and_more-blocks.result ≡ Ok x._done = rw x.ensures.made at c.beside.ensures.made in
-    known_is text (bodies_part text c.args.bodies) c.args.base (body_part c.args.part) _ _ c.args.verdict.fault _ _
+    known_is text (bodies_part text c.args.bodies) c.args.base (body_part c.args.part) _ _ c.args.check.fault _ _
     (ap (λ (s : BodiesPart). option_map (map block_terms) s.blocks) held ∙ ap (option_map (map block_terms)) (rw done at c.and_more-blocks.ensures) ∙ more_seen block_terms c.args.bodies.blocks c.args.part.blocks)
     (pushed text c.args.bodies.orders c.push.new.self _ x.class (c.in-Ok.ensures.ok ∙ ap (λ (s : BodiesPart). s.orders ++ x.class ∷ []) held) (rw x.ensures.made at c.beside.ensures.held))
     (c.earlier.ensures ∙ ap (λ (s : BodiesPart). earlier s.fault c.args.part.fault) held) c.earlier-fault.ensures

@@ -7,8 +7,8 @@ use Rattle.svr_elab_block.proofs.inherit.inherited_back.Goals as goal
 
 pub up-init : goal.up-init
 up-init c =
-    gathered_first (names_of c.args.names) c.args.chain.now (map bytes_of c.and_names.new.names.keys) (map bytes_of c.args.own.now.keys) c.args.base c.new-back.result.items c.new-back.ensures.items
-    (both_first c.new-replaced.result.keys c.as_slice.result.now c.args.own.now.keys c.and_names.new.names.keys c.new-replaced.ensures.empty c.as_slice.ensures.keys c.in_ok-and_names.ensures)
+    gathered_first (names_of c.args.names) c.args.chain.now (map bytes_of c.with_names.new.names.keys) (map bytes_of c.args.own.now.keys) c.args.base c.new-back.result.items c.new-back.ensures.items
+    (both_first c.new-replaced.result.keys c.as_slice.result.now c.args.own.now.keys c.with_names.new.names.keys c.new-replaced.ensures.empty c.as_slice.ensures.keys c.in_ok-with_names.ensures)
 
 pub up-preserved : goal.up-preserved
 up-preserved c =

@@ -2,7 +2,7 @@ use Rattle.std.proofs.Common.{◌≡◌, ℕ, ◌||◌, List, map, take}
 use Rattle.std.specs.List.{list_any}
 use Rattle.svr_elab_names.specs.Names.{is_same}
 use Rattle.svr_elab_names.specs.Tables.{bytes_of}
-use Rattle.svr_elab_block.proofs.inherit.and_names.Given as goal
+use Rattle.svr_elab_block.proofs.inherit.with_names.Given as goal
 
 abbrev pub invariant-loop-name : goal.invariant-loop-name
 invariant-loop-name l =

@@ -1,6 +1,6 @@
 use Rattle.std.proofs.Common.{arith}
 use Rattle.svr_elab_block.proofs.Standing.{names_first, names_next, no_name}
-use Rattle.svr_elab_block.proofs.inherit.and_names.Goals as goal
+use Rattle.svr_elab_block.proofs.inherit.with_names.Goals as goal
 
 pub loop-name-init : goal.loop-name-init
 loop-name-init c = names_first c.args.names.now.keys
