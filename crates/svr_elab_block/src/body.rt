@@ -20,7 +20,8 @@ ghost use Rattle.svr_elab_block.specs.Chain.{all_orders, AreRanks, AreRanked};
 ghost use Rattle.svr_elab_block.specs.Seen.{body_part, bodies_part};
 ghost use Rattle.svr_elab_block.specs.Fits.{ItemFits, BodyFits, BodiesFit};
 
-use crate::cycle::{CycleCheck, of_own};
+use crate::cycle::{ClassAt, CycleCheck, of_own};
+use crate::family::family_ranks;
 use crate::inherit::{base_of, is_among, with_name};
 use crate::part::{BodiesPart, BodyPart, ClassOrders, no_body};
 use crate::place::in_class;
@@ -28,11 +29,13 @@ use crate::solve::and_orders;
 use indexmap::IndexSet;
 use sqlite_items::Items;
 use std::alloc::Global;
+use std::rc::Rc;
 use svr_elab_expr::{beside, both};
 use svr_elab_fault::{Fault, earlier};
 use svr_elab_form::pushed;
 use svr_elab_item::{Around, ItemsPart};
 use svr_elab_names::{NameSpace, Region};
+use svr_elab_order::Ranks;
 use svr_elab_set::items;
 use svr_token::Names;
 use svr_tree::{ClassDecl, ClassItem, ConstraintBlock, Declarator};
@@ -235,22 +238,22 @@ fn and_known<'a>(
     }
 }
 
-/// With the blocks of one more class, whose base has this number.
+/// With the blocks of one more class.
 fn and_body<'a>(
     alloc: Global,
     bodies: BodiesPart<'a>,
-    base: Option<u32>,
+    at: ClassAt<'_>,
     part: BodyPart<'a>,
     names: Names<'_>,
 ) -> Result<BodiesPart<'a>, NoMemory>
     requires { AreRanked (names_of names) bodies.orders }
-    ensures value { IfOk result (λ s. bodies_part (names_of names.entry) s ≡ spec.and_body first_one (bodies_part (names_of names.entry) bodies.entry) (chain_spec.inherited (names_of names.entry) (all_orders (names_of names.entry) bodies.entry.orders) base (body_part part.entry).named) (body_part part.entry)) }
+    ensures value { IfOk result (λ s. bodies_part (names_of names.entry) s ≡ spec.and_body first_one (bodies_part (names_of names.entry) bodies.entry) (chain_spec.inherited (names_of names.entry) (all_orders (names_of names.entry) bodies.entry.orders) at.entry.base (body_part part.entry).named) (body_part part.entry)) }
     ensures ranks { IfOk result (λ s. AreRanked (names_of names.entry) s.orders) }
 {
     let before = earlier(bodies.fault, part.fault);
-    let check = of_own(alloc, bodies.orders.as_slice(), base, &part, before, names);
+    let check = of_own(alloc, bodies.orders.as_slice(), at, &part, before, names);
     let (bodies, (part, check)) = beside(bodies, beside(part, check))?;
-    and_known(bodies, base, part, check)
+    and_known(bodies, at.base, part, check)
 }
 
 /// With the body of the class of this number.
@@ -259,6 +262,7 @@ fn and_class<'a>(
     bodies: BodiesPart<'a>,
     class: &ClassDecl,
     number: usize,
+    families: &[Option<Rc<Ranks>>],
     names: &NameSpace<'_, 'a>,
 ) -> Result<BodiesPart<'a>, NoMemory>
     requires number { number < length names.now.classes.now }
@@ -272,8 +276,12 @@ fn and_class<'a>(
 {
     let inside = in_class(names, Region::Block, number);
     let (bodies, part) = beside(bodies, body(alloc, class, &inside))?;
-    let base = base_of(names.classes, number);
-    and_body(alloc, bodies, base, part, names.names)
+    let at = ClassAt {
+        number,
+        base: base_of(names.classes, number),
+        families,
+    };
+    and_body(alloc, bodies, at, part, names.names)
 }
 
 /// What is known of the blocks of all classes, with their first refusal. `classes`: their declarations in order, whose numbers begin with 0. `names`: what names stand for outside of them.
@@ -289,10 +297,11 @@ pub fn class_bodies<'a>(
     requires fits { BodiesFit (length names.now.loops.now) (map class_tree classes.now) }
     ensures { IfOk result (λ s. bodies_part (names_of names.now.names) s ≡ spec.bodies first_one (space_of names.now) (spec.no_bodies first_one) 0 (map class_tree classes.now)) }
 {
+    let families = family_ranks(alloc, classes, names)?;
     let mut bodies = BodiesPart::none(alloc);
     let mut number = 0;
     for class in classes {
-        bodies = and_class(alloc, bodies, class, number, names)?;
+        bodies = and_class(alloc, bodies, class, number, families.as_slice(), names)?;
         number += 1;
     }
     Ok(bodies)

@@ -27,6 +27,14 @@ pub(crate) struct CycleCheck {
     pub fault: Option<Fault>,
 }
 
+/// A class: its number, that of its base, and ranks for each family to begin with, at the number of the class that all of it extend.
+#[derive(Clone, Copy)]
+pub(crate) struct ClassAt<'s> {
+    pub number: usize,
+    pub base: Option<u32>,
+    pub families: &'s [Option<Rc<Ranks>>],
+}
+
 /// Ranks for one class and those that extend it.
 fn owned(alloc: Global, ranks: Ranks) -> Result<Option<Rc<Ranks>>, NoMemory>
     ensures { IfOk result (λ r. option_map rc_value r ≡ Some ranks) }
@@ -47,16 +55,28 @@ fn shared(ranks: &Option<Rc<Ranks>>) -> Result<Option<Rc<Ranks>>, NoMemory>
     }
 }
 
+/// Ranks for a class that extends none.
+fn first_ranks(
+    alloc: Global,
+    families: &[Option<Rc<Ranks>>],
+    class: usize,
+) -> Result<Option<Rc<Ranks>>, NoMemory> {
+    match families.get(class) {
+        Some(Some(ranks)) => Ok(Some(ranks.clone()?)),
+        Some(None) | None => owned(alloc, Ranks::by_number(alloc)),
+    }
+}
+
 /// Ranks that all that a class inherits agrees with, where they are known.
 fn inherited_ranks(
     alloc: Global,
     chain: &[ClassOrders<'_>],
-    base: Option<u32>,
+    at: ClassAt<'_>,
 ) -> Result<Option<Rc<Ranks>>, NoMemory>
-    ensures { (text : ℕ → List ℕ) → AreRanked text chain.now → IfOk result (λ r. AreRanks (option_map rc_value r) (spec.orders_at (all_orders text chain.now) base)) }
+    ensures { (text : ℕ → List ℕ) → AreRanked text chain.now → IfOk result (λ r. AreRanks (option_map rc_value r) (spec.orders_at (all_orders text chain.now) at.entry.base)) }
 {
-    let Some(base) = base else {
-        return owned(alloc, Ranks::by_number(alloc));
+    let Some(base) = at.base else {
+        return first_ranks(alloc, at.families, at.number);
     };
     match chain.get(base as usize) {
         None => Ok(None),
@@ -112,16 +132,16 @@ fn of_class(
 pub(crate) fn of_own(
     alloc: Global,
     chain: &[ClassOrders<'_>],
-    base: Option<u32>,
+    at: ClassAt<'_>,
     part: &BodyPart<'_>,
     before: Option<Fault>,
     names: Names<'_>,
 ) -> Result<CycleCheck, NoMemory>
     requires { AreRanked (names_of names) chain.now }
-    ensures ranks { IfOk result (λ v. AreRanks (option_map rc_value v.ranks) (chain_spec.inherited (names_of names.entry) (all_orders (names_of names.entry) chain.now) base (map bytes_of part.now.named.keys) ++ part.now.orders)) }
-    ensures fault { IfOk result (λ v. faults.earlier before v.fault ≡ faults.earlier before (cycles first_one (chain_spec.inherited (names_of names.entry) (all_orders (names_of names.entry) chain.now) base (map bytes_of part.now.named.keys)) part.now.orders)) }
+    ensures ranks { IfOk result (λ v. AreRanks (option_map rc_value v.ranks) (chain_spec.inherited (names_of names.entry) (all_orders (names_of names.entry) chain.now) at.entry.base (map bytes_of part.now.named.keys) ++ part.now.orders)) }
+    ensures fault { IfOk result (λ v. faults.earlier before v.fault ≡ faults.earlier before (cycles first_one (chain_spec.inherited (names_of names.entry) (all_orders (names_of names.entry) chain.now) at.entry.base (map bytes_of part.now.named.keys)) part.now.orders)) }
 {
-    let ranks = inherited_ranks(alloc, chain, base)?;
+    let ranks = inherited_ranks(alloc, chain, at)?;
     if do_agree(&ranks, part.orders.as_slice()) {
         return Ok(CycleCheck { ranks, fault: None });
     }
@@ -132,5 +152,5 @@ pub(crate) fn of_own(
             fault: None,
         });
     }
-    of_class(alloc, chain, base, part, names)
+    of_class(alloc, chain, at.base, part, names)
 }

@@ -6,6 +6,7 @@
 mod body;
 mod cycle;
 mod examples;
+mod family;
 mod inherit;
 mod law;
 mod part;

@@ -20,10 +20,10 @@ returns-clause-value c =
     let part : x.part ≡ c.args.part = rw x.ensures.made at c.beside.ensures.held in
     let check : c.of_own-check.result ≡ Ok x.check = rw x.ensures.made at c.beside.ensures.made in
     let P : List ClassOrders → Type 0 = λ cs.
-    earlier c.earlier-before.result x.check.fault ≡ earlier c.earlier-before.result (cycles first_one (inherited text (all_orders text cs) c.args.base b.named) b.orders) in
+    earlier c.earlier-before.result x.check.fault ≡ earlier c.earlier-before.result (cycles first_one (inherited text (all_orders text cs) c.args.at.base b.named) b.orders) in
     told c.and_known.result (c.and_known.ensures.value text)
     (λ s is.
-    body_is text (bodies_part text c.args.bodies) (bodies_part text s) c.args.base b c.earlier-before.result x.check.fault
+    body_is text (bodies_part text c.args.bodies) (bodies_part text s) c.args.at.base b c.earlier-before.result x.check.fault
     (rw (part, x.ensures.held) at is) c.earlier-before.ensures (subst P c.as_slice.ensures (rw check at c.of_own-check.ensures.fault)))
 
 pub returns-clause-ranks : goal.returns-clause-ranks
@@ -33,6 +33,6 @@ returns-clause-ranks c =
     let part : x.part ≡ c.args.part = rw x.ensures.made at c.beside.ensures.held in
     let check : c.of_own-check.result ≡ Ok x.check = rw x.ensures.made at c.beside.ensures.made in
     let b = body_part c.args.part in
-    let P : List ClassOrders → Type 0 = λ cs. AreRanks (option_map rc_value x.check.ranks) (inherited text (all_orders text cs) c.args.base b.named ++ b.orders) in
+    let P : List ClassOrders → Type 0 = λ cs. AreRanks (option_map rc_value x.check.ranks) (inherited text (all_orders text cs) c.args.at.base b.named ++ b.orders) in
     let ranks : P c.args.bodies.orders = subst P c.as_slice.ensures (rw check at c.of_own-check.ensures.ranks) in
     rw (part, x.ensures.held) at c.and_known.ensures.ranks text c.requires ranks

@@ -20,4 +20,4 @@ returns-clause-value c =
     told c.and_body.result c.and_body.ensures.value
     (λ s is.
     class_is (space_of c.args.names.now) (space_of c.in_class-inside.result) c.args.number (class_tree c.args.class.now) (bodies_part text c.args.bodies) (bodies_part text s)
-    (body_part x.part) c.base_of-base.result (rw x.ensures.held at is) c.base_of-base.ensures (rw x.ensures.made at c.body.ensures) c.in_class-inside.ensures.space)
+    (body_part x.part) c.base_of.result (rw x.ensures.held at is) c.base_of.ensures (rw x.ensures.made at c.body.ensures) c.in_class-inside.ensures.space)

@@ -15,9 +15,9 @@ returns-then-do_agree-clause-ranks c =
     let named = map bytes_of c.args.part.now.named.keys in
     let r = option_map rc_value c.in_ok-ranks.ranks in
     let os = c.args.part.now.orders in
-    let h : AreRanks r (orders_at done c.args.base) = at_ok (λ ranks. AreRanks (option_map rc_value ranks) (orders_at done c.args.base)) c.inherited_ranks.result c.in_ok-ranks.ranks c.in_ok-ranks.was (c.inherited_ranks.ensures text c.requires) in
+    let h : AreRanks r (orders_at done c.args.at.base) = at_ok (λ ranks. AreRanks (option_map rc_value ranks) (orders_at done c.args.at.base)) c.inherited_ranks.result c.in_ok-ranks.ranks c.in_ok-ranks.was (c.inherited_ranks.ensures text c.requires) in
     let k : is_agreed r os ≡ true = search rules in
-    agreed r (inherited text done c.args.base named) os (for_inherited text r done c.args.base named h) k
+    agreed r (inherited text done c.args.at.base named) os (for_inherited text r done c.args.at.base named h) k
 
 pub returns-then-do_agree-clause-fault : goal.returns-then-do_agree-clause-fault
 returns-then-do_agree-clause-fault c =
@@ -26,12 +26,12 @@ returns-then-do_agree-clause-fault c =
     let named = map bytes_of c.args.part.now.named.keys in
     let r = option_map rc_value c.in_ok-ranks.ranks in
     let os = c.args.part.now.orders in
-    let h : AreRanks r (orders_at done c.args.base) = at_ok (λ ranks. AreRanks (option_map rc_value ranks) (orders_at done c.args.base)) c.inherited_ranks.result c.in_ok-ranks.ranks c.in_ok-ranks.was (c.inherited_ranks.ensures text c.requires) in
+    let h : AreRanks r (orders_at done c.args.at.base) = at_ok (λ ranks. AreRanks (option_map rc_value ranks) (orders_at done c.args.at.base)) c.inherited_ranks.result c.in_ok-ranks.ranks c.in_ok-ranks.was (c.inherited_ranks.ensures text c.requires) in
     let k : is_agreed r os ≡ true = search rules in
-    none_told r (inherited text done c.args.base named) os (for_inherited text r done c.args.base named h) k c.args.before
+    none_told r (inherited text done c.args.at.base named) os (for_inherited text r done c.args.at.base named h) k c.args.before
 
 pub returns-then-are_behind-clause-fault : goal.returns-then-are_behind-clause-fault
 returns-then-are_behind-clause-fault c =
     let text = names_of c.args.names in
     let h : are_behind c.args.before c.args.part.now.orders ≡ true = search rules in
-    behind_told c.args.before (inherited text (all_orders text c.args.chain.now) c.args.base (map bytes_of c.args.part.now.named.keys)) c.args.part.now.orders h
+    behind_told c.args.before (inherited text (all_orders text c.args.chain.now) c.args.at.base (map bytes_of c.args.part.now.named.keys)) c.args.part.now.orders h
