@@ -2,13 +2,13 @@
 use Rattle.std.specs.Prelude.{◌≡◌, ⊤, ℕ, nat_lt, Bool, true, false, if◌then◌else◌, List, [], ◌∷◌, ◌++◌, Option, Some, None, option_map, map, slice_get}
 use Rattle.std.specs.Rc.{rc_value}
 use Rattle.svr_elab_fault.specs.declared.Fault.{Fault}
-use Rattle.svr_elab_fault.specs.Refusals.{earlier}
+use Rattle.svr_elab_fault.specs.Refusals.{first_one, earlier}
 use Rattle.svr_elab_names.specs.Tables.{bytes_of}
 use Rattle.svr_elab_part.specs.Shapes.{and_more}
 use Rattle.svr_elab_order.specs.declared.Order.{Order}
 use Rattle.svr_elab_order.specs.declared.Ranks.{Ranks}
 use Rattle.svr_elab_order.specs.Ranks.{agree}
-use Rattle.svr_elab_block.specs.Blocks.{BodyElab, BodiesElab, without, orders_at}
+use Rattle.svr_elab_block.specs.Blocks.{BodyElab, BodiesElab, without, orders_at, and_body}
 use Rattle.svr_elab_block.specs.declared.part.ClassOrders.{ClassOrders}
 
 -- what a class behind these inherits: what its base orders by blocks in whose place it puts none
@@ -83,3 +83,7 @@ and_class text s base b cycle = record {
   orders = s.orders ++ (inherited text s.orders base b.named ++ b.orders) ∷ [];
   faults = earlier (earlier s.faults b.faults) cycle;
 }
+
+-- with the refusal of its own items in the place of that one
+abbrev pub with_class : (ℕ → List ℕ) → BodiesElab (Option Fault) → Option ℕ → BodyElab (Option Fault) → BodiesElab (Option Fault)
+with_class text s base b = and_body first_one s (inherited text s.orders base b.named) b

@@ -247,7 +247,7 @@ fn and_body<'a>(
     names: Names<'_>,
 ) -> Result<BodiesPart<'a>, NoMemory>
     requires { AreRanked (names_of names) bodies.orders }
-    ensures value { IfOk result (λ s. bodies_part (names_of names.entry) s ≡ spec.and_body first_one (bodies_part (names_of names.entry) bodies.entry) (chain_spec.inherited (names_of names.entry) (all_orders (names_of names.entry) bodies.entry.orders) at.entry.base (body_part part.entry).named) (body_part part.entry)) }
+    ensures value { IfOk result (λ s. bodies_part (names_of names.entry) s ≡ chain_spec.with_class (names_of names.entry) (bodies_part (names_of names.entry) bodies.entry) at.entry.base (body_part part.entry)) }
     ensures ranks { IfOk result (λ s. AreRanked (names_of names.entry) s.orders) }
 {
     let before = earlier(bodies.fault, part.fault);
