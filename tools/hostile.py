@@ -196,6 +196,19 @@ def ordered_classes(size):
     return filled(size, "class C0;\nrand bit a, b;\nendclass\n", lambda k: f"class C{k + 1} extends C{k};\nconstraint c{k} {{ solve a before b; }}\nendclass\n", back)
 
 
+def turned_classes(size):
+    """A chain of classes, each of which orders one of 300 properties before an earlier one, all pairs in turn."""
+    names = [f"p{i}" for i in range(300)]
+    pairs = [(later, earlier) for earlier in range(300) for later in range(earlier + 1, 300)]
+    declared = "".join(f"rand bit {it};\n" for it in names)
+
+    def part(k):
+        later, earlier = pairs[k % len(pairs)]
+        return f"class C{k + 1} extends C{k};\nconstraint c{k} {{ solve {names[later]} before {names[earlier]}; }}\nendclass\n"
+
+    return filled(size, f"class C0;\n{declared}endclass\n", part, script("", "p.randomize();\n", "C0 p = new;\n"))
+
+
 def wide_classes(size):
     """Classes that each extend one with 1,000 properties."""
     declared = "".join(f"bit p{i};\n" for i in range(1000))
@@ -283,7 +296,7 @@ def hard_softs(size):
     return text + " " * (size - len(text))
 
 
-KINDS = [comment, name, properties, variables, statements, calls, arrays, loops, parentheses, classes, grown_classes, last_class, used_classes, made_classes, objects, blocks, modes, inherited_modes, turned_modes, ordered_classes, wide_classes, replaced, solves, uniques, softs, hard_softs, kept_softs, disables, members, searched_members, cyclic, new_cycles]
+KINDS = [comment, name, properties, variables, statements, calls, arrays, loops, parentheses, classes, grown_classes, last_class, used_classes, made_classes, objects, blocks, modes, inherited_modes, turned_modes, ordered_classes, turned_classes, wide_classes, replaced, solves, uniques, softs, hard_softs, kept_softs, disables, members, searched_members, cyclic, new_cycles]
 
 
 def text_of(kind, size):
