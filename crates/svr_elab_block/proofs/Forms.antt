@@ -18,7 +18,7 @@ use Rattle.svr_elab_item.specs.declared.Around.{Around}
 use Rattle.svr_elab_item.specs.Items.{ItemsElab, items, no_items, outside}
 use Rattle.svr_elab_block.specs.Blocks as spec
 use Rattle.svr_elab_block.specs.Blocks.{BodyElab, BodiesElab}
-use Rattle.svr_elab_block.specs.Chain.{inherited, and_class}
+use Rattle.svr_elab_block.specs.Chain.{inherited, and_class, with_class}
 
 -- what is made is so by what is told of it
 pub told : {A E : Type 0} {P Q : A → Type 0} (r : Result A E) → IfOk r P → ((x : A) → P x → Q x) → IfOk r Q
@@ -72,30 +72,26 @@ pub block_is : (n : Space) (k : ℕ) (b : BodyElab (Option Fault)) (e : ItemsEla
     → (let s : BodyElab (Option Fault) = record { own = own; named = named; blocks = bs; orders = os; faults = f } in s) ≡ spec.with_block first_one b r (spec.orders n k b.orders js) e
 block_is n k b e q r is js own named bs os f is_q is_own is_named is_bs is_os is_is is_f = rw (is_f, is_os, is_is, is_bs, is_named, is_own, is_q) refl
 
-abbrev and_faults : Option (List (List BlockTerm)) → List (List Order) → Option Fault → BodiesElab (Option Fault)
-and_faults bs os f = record { blocks = bs; orders = os; faults = f }
+-- the blocks of one more class, and what it orders
+pub known_is : (s : BodiesElab (Option Fault)) (blocks : Option (List BlockTerm)) (orders : List Order) (fault : Option Fault) (bs : Option (List (List BlockTerm))) (os : List (List Order))
+    → bs ≡ and_more s.blocks blocks → os ≡ s.orders ++ orders ∷ [] → (let r : BodiesElab (Option Fault) = record { blocks = bs; orders = os; faults = fault } in r) ≡ and_class s blocks orders fault
+known_is s blocks orders fault bs os is_bs is_os = rw (is_os, is_bs) refl
 
--- the blocks of one more class, and what is known of its orders
-pub known_is : (text : ℕ → List ℕ) (s : BodiesElab (Option Fault)) (base : Option ℕ) (b : BodyElab (Option Fault)) (bs : Option (List (List BlockTerm))) (os : List (List Order)) (cycle a e : Option Fault)
-    → bs ≡ and_more s.blocks b.blocks → os ≡ s.orders ++ (inherited text s.orders base b.named ++ b.orders) ∷ [] → a ≡ earlier s.faults b.faults → e ≡ earlier a cycle
-    → (let r : BodiesElab (Option Fault) = record { blocks = bs; orders = os; faults = e } in r) ≡ and_class text s base b cycle
-known_is text s base b bs os cycle a e is_bs is_os is_a is_e = rw (is_e, is_a, is_os, is_bs) refl
-
--- and with the refusal that its own items have among those before
-pub body_is : (text : ℕ → List ℕ) (s r : BodiesElab (Option Fault)) (base : Option ℕ) (b : BodyElab (Option Fault)) (before cycle : Option Fault)
-    → r ≡ and_class text s base b cycle → before ≡ earlier s.faults b.faults → earlier before cycle ≡ earlier before (cycles first_one (inherited text s.orders base b.named) b.orders)
-    → r ≡ spec.and_body first_one s (inherited text s.orders base b.named) b
-body_is text s r base b before cycle h is_before is_cycle =
+-- that is the class with the refusal that its own items have
+pub body_is : (text : ℕ → List ℕ) (s r : BodiesElab (Option Fault)) (base : Option ℕ) (b : BodyElab (Option Fault)) (orders : List Order) (before cycle fault : Option Fault)
+    → r ≡ and_class s b.blocks orders fault → orders ≡ inherited text s.orders base b.named ++ b.orders → before ≡ earlier s.faults b.faults → fault ≡ earlier before cycle
+    → earlier before cycle ≡ earlier before (cycles first_one (inherited text s.orders base b.named) b.orders) → r ≡ with_class text s base b
+body_is text s r base b orders before cycle fault h is_orders is_before is_fault is_cycle =
     let refused : Option Fault = cycles first_one (inherited text s.orders base b.named) b.orders in
-    let faults : earlier (earlier s.faults b.faults) cycle ≡ earlier s.faults (earlier b.faults refused) =
-    ap (λ (f : Option Fault). earlier f cycle) (sym is_before) ∙ is_cycle ∙ ap (λ (f : Option Fault). earlier f refused) is_before ∙ earlier_assoc s.faults b.faults refused in
-    h ∙ ap (and_faults (and_more s.blocks b.blocks) (s.orders ++ (inherited text s.orders base b.named ++ b.orders) ∷ [])) faults
+    let faults : fault ≡ earlier s.faults (earlier b.faults refused) =
+    is_fault ∙ is_cycle ∙ ap (λ (f : Option Fault). earlier f refused) is_before ∙ earlier_assoc s.faults b.faults refused in
+    h ∙ ap (λ (os : List Order). and_class s b.blocks os fault) is_orders ∙ ap (and_class s b.blocks (inherited text s.orders base b.named ++ b.orders)) faults
 
 pub class_is : (n i : Space) (k : ℕ) (c : ClassTree) (s r : BodiesElab (Option Fault)) (b : BodyElab (Option Fault)) (base : Option ℕ)
-    → r ≡ spec.and_body first_one s (inherited n.text s.orders base b.named) b → base ≡ spec.base_of (slice_get n.classes k) → b ≡ spec.body_items first_one i (spec.no_body first_one) c.items → i ≡ spec.in_class n region.Block k
+    → r ≡ with_class n.text s base b → base ≡ spec.base_of (slice_get n.classes k) → b ≡ spec.body_items first_one i (spec.no_body first_one) c.items → i ≡ spec.in_class n region.Block k
     → r ≡ spec.with_class first_one n s k (spec.body first_one n k c)
 class_is n i k c s r b base h p q e =
-    h ∙ ap (λ (o : Option ℕ). spec.and_body first_one s (inherited n.text s.orders o b.named) b) p
+    h ∙ ap (λ (o : Option ℕ). with_class n.text s o b) p
     ∙ ap (λ (b : BodyElab (Option Fault)). spec.and_body first_one s (spec.inherited first_one n s k b) b)
     (q ∙ ap (λ (i : Space). spec.body_items first_one i (spec.no_body first_one) c.items) e)
 

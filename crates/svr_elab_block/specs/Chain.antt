@@ -1,8 +1,9 @@
 -- What the code keeps of orders: of each class its own, with the number of its base and ranks that all its orders agree with.
 use Rattle.std.specs.Prelude.{◌≡◌, ⊤, ℕ, nat_lt, Bool, true, false, if◌then◌else◌, List, [], ◌∷◌, ◌++◌, Option, Some, None, option_map, map, slice_get}
 use Rattle.std.specs.Rc.{rc_value}
+use Rattle.svr_typed.specs.ClassTerm.{BlockTerm}
 use Rattle.svr_elab_fault.specs.declared.Fault.{Fault}
-use Rattle.svr_elab_fault.specs.Refusals.{first_one, earlier}
+use Rattle.svr_elab_fault.specs.Refusals.{first_one}
 use Rattle.svr_elab_names.specs.Tables.{bytes_of}
 use Rattle.svr_elab_part.specs.Shapes.{and_more}
 use Rattle.svr_elab_order.specs.declared.Order.{Order}
@@ -76,14 +77,10 @@ AreRanked text cs = RankedAfter text [] cs
 
 -- ---- one class more
 
--- with the blocks of a class, the refusal that its orders have, and what it orders
-abbrev pub and_class : (ℕ → List ℕ) → BodiesElab (Option Fault) → Option ℕ → BodyElab (Option Fault) → Option Fault → BodiesElab (Option Fault)
-and_class text s base b cycle = record {
-  blocks = and_more s.blocks b.blocks;
-  orders = s.orders ++ (inherited text s.orders base b.named ++ b.orders) ∷ [];
-  faults = earlier (earlier s.faults b.faults) cycle;
-}
+-- with the blocks of a class, what it orders in all, and the first refusal of all so far
+abbrev pub and_class : BodiesElab (Option Fault) → Option (List BlockTerm) → List Order → Option Fault → BodiesElab (Option Fault)
+and_class s blocks orders fault = record { blocks = and_more s.blocks blocks; orders = s.orders ++ orders ∷ []; faults = fault }
 
--- with the refusal of its own items in the place of that one
+-- with a class behind this base
 abbrev pub with_class : (ℕ → List ℕ) → BodiesElab (Option Fault) → Option ℕ → BodyElab (Option Fault) → BodiesElab (Option Fault)
 with_class text s base b = and_body first_one s (inherited text s.orders base b.named) b

@@ -1,7 +1,6 @@
 // The bodies of classes, in one pass.
 
 ghost use Rattle.std.specs.Prelude.{◌≡◌, ◌<◌, ◌≤◌, ◌^◌, ◌++◌, ℕ, List, length, map, option_map, IfOk, OnOk};
-ghost use Rattle.std.specs.Rc.{rc_value};
 ghost use Rattle.svr_token.specs.Names.{names_of};
 ghost use Rattle.svr_typed.specs.ClassTerm.{block_term};
 ghost use Rattle.svr_tree.specs.ItemTree.{item_trees};
@@ -16,11 +15,11 @@ ghost use Rattle.svr_elab_item.specs.Seen.{items_part};
 ghost use Rattle.svr_elab_item.specs.Fits.{ItemsFit, ItemsLoopsFit};
 ghost use Rattle.svr_elab_block.specs.Blocks as spec;
 ghost use Rattle.svr_elab_block.specs.Chain as chain_spec;
-ghost use Rattle.svr_elab_block.specs.Chain.{all_orders, AreRanks, AreRanked};
+ghost use Rattle.svr_elab_block.specs.Chain.{all_orders, class_orders, ranks_in, AreRanks, AreRanked};
 ghost use Rattle.svr_elab_block.specs.Seen.{body_part, bodies_part};
 ghost use Rattle.svr_elab_block.specs.Fits.{ItemFits, BodyFits, BodiesFit};
 
-use crate::cycle::{ClassAt, CycleCheck, of_own};
+use crate::cycle::{ClassAt, of_own};
 use crate::family::family_ranks;
 use crate::inherit::{base_of, is_among, with_name};
 use crate::part::{BodiesPart, BodyPart, ClassOrders, no_body};
@@ -208,27 +207,19 @@ fn body<'a>(
     Ok(part)
 }
 
-/// With the blocks of one more class, and what is known of its orders.
+/// With the blocks of one more class, what it orders, and the first refusal of all so far.
 fn and_known<'a>(
     bodies: BodiesPart<'a>,
-    base: Option<u32>,
-    part: BodyPart<'a>,
-    check: CycleCheck,
+    blocks: Option<Items<TBlock>>,
+    class: ClassOrders<'a>,
+    fault: Option<Fault>,
 ) -> Result<BodiesPart<'a>, NoMemory>
-    ensures value { (text : ℕ → List ℕ) → IfOk result (λ s. bodies_part text s ≡ chain_spec.and_class text (bodies_part text bodies.entry) base (body_part part.entry) check.fault) }
-    ensures ranks { (text : ℕ → List ℕ) → AreRanked text bodies.entry.orders → AreRanks (option_map rc_value check.ranks) (chain_spec.inherited text (all_orders text bodies.entry.orders) base (body_part part.entry).named ++ part.entry.orders) → IfOk result (λ s. AreRanked text s.orders) }
+    ensures value { (text : ℕ → List ℕ) → IfOk result (λ s. bodies_part text s ≡ chain_spec.and_class (bodies_part text bodies.entry) (option_map (map block_term) blocks) (class_orders text (all_orders text bodies.entry.orders) class.entry) fault) }
+    ensures ranks { (text : ℕ → List ℕ) → AreRanked text bodies.entry.orders → AreRanks (ranks_in class.entry) (class_orders text (all_orders text bodies.entry.orders) class.entry) → IfOk result (λ s. AreRanked text s.orders) }
 {
-    drop(part.own);
     let mut bodies = bodies;
-    let blocks = and_more(&mut bodies.blocks, part.blocks);
-    let class = ClassOrders {
-        base,
-        named: part.named,
-        own: part.orders,
-        ranks: check.ranks,
-    };
-    let (mut bodies, (class, _done)) = beside(bodies, beside(class, blocks))?;
-    let fault = earlier(earlier(bodies.fault, part.fault), check.fault);
+    let known = and_more(&mut bodies.blocks, blocks);
+    let (mut bodies, (class, _done)) = beside(bodies, beside(class, known))?;
     match bodies.orders.push(class) {
         Ok(()) => Ok(BodiesPart { fault, ..bodies }),
         Err(_) => {
@@ -251,9 +242,12 @@ fn and_body<'a>(
     ensures ranks { IfOk result (λ s. AreRanked (names_of names.entry) s.orders) }
 {
     let before = earlier(bodies.fault, part.fault);
-    let check = of_own(alloc, bodies.orders.as_slice(), at, &part, before, names);
-    let (bodies, (part, check)) = beside(bodies, beside(part, check))?;
-    and_known(bodies, at.base, part, check)
+    drop(part.own);
+    let chain = bodies.orders.as_slice();
+    let check = of_own(alloc, chain, at, part.named, part.orders, before, names);
+    let (bodies, (blocks, check)) = beside(bodies, beside(part.blocks, check))?;
+    let fault = earlier(before, check.fault);
+    and_known(bodies, blocks, check.class, fault)
 }
 
 /// With the body of the class of this number.

@@ -170,6 +170,24 @@ fn base_before(chain: &[ClassOrders<'_>], class: u32) -> Option<u32>
     }
 }
 
+/// How much there is to look at in a class: itself, its own items, and the names of its blocks.
+fn size_of(chain: &[ClassOrders<'_>], class: u32) -> usize {
+    match chain.get(class as usize) {
+        None => 0,
+        Some(class) => {
+            let items = class.own.len().saturating_add(class.named.len());
+            items.saturating_add(1)
+        }
+    }
+}
+
+/// What a class inherits, and how much was looked at for it.
+#[derive(Drop)]
+pub(crate) struct Gathered {
+    pub orders: Vec<Order>,
+    pub seen: usize,
+}
+
 /// What a class inherits of what its base orders, from the last item back. `own`: the names of its blocks.
 fn inherited_back<'a>(
     alloc: Global,
@@ -177,19 +195,21 @@ fn inherited_back<'a>(
     base: Option<u32>,
     own: &IndexSet<&'a [u8]>,
     names: Names<'_>,
-) -> Result<Vec<Order>, NoMemory>
-    ensures { IfOk result (λ os. reverse os.items ≡ chain_spec.inherited (names_of names.entry) (all_orders (names_of names.entry) chain.now) base (map bytes_of own.now.keys)) }
+) -> Result<Gathered, NoMemory>
+    ensures { IfOk result (λ g. reverse g.orders.items ≡ chain_spec.inherited (names_of names.entry) (all_orders (names_of names.entry) chain.now) base (map bytes_of own.now.keys)) }
 {
     let mut replaced = IndexSet::new(alloc);
     with_names(&mut replaced, own.as_slice())?;
     let mut back = Vec::new(alloc);
+    let mut seen: usize = 0;
     let mut next = base;
     'up: while let Some(at) = next {
         and_class_back(alloc, &mut back, chain, at, &replaced, names)?;
         and_class_names(&mut replaced, chain, at)?;
+        seen = seen.saturating_add(size_of(chain, at));
         next = base_before(chain, at);
     }
-    Ok(back)
+    Ok(Gathered { orders: back, seen })
 }
 
 /// What a class inherits of what its base orders. `own`: the names of its blocks.
@@ -199,10 +219,10 @@ pub(crate) fn inherited<'a>(
     base: Option<u32>,
     own: &IndexSet<&'a [u8]>,
     names: Names<'_>,
-) -> Result<Vec<Order>, NoMemory>
-    ensures { IfOk result (λ os. os.items ≡ chain_spec.inherited (names_of names.entry) (all_orders (names_of names.entry) chain.now) base (map bytes_of own.now.keys)) }
+) -> Result<Gathered, NoMemory>
+    ensures { IfOk result (λ g. g.orders.items ≡ chain_spec.inherited (names_of names.entry) (all_orders (names_of names.entry) chain.now) base (map bytes_of own.now.keys)) }
 {
-    let mut back = inherited_back(alloc, chain, base, own, names)?;
-    back.reverse();
-    Ok(back)
+    let mut gathered = inherited_back(alloc, chain, base, own, names)?;
+    gathered.orders.reverse();
+    Ok(gathered)
 }
