@@ -31,11 +31,11 @@ pub(crate) struct BodyPart<'a> {
 /// What one class orders: by its own items, and as its base does.
 #[derive(Drop)]
 pub struct ClassOrders<'a> {
-    /// The number of its base.
+    /// The number of its base; none where what it inherits stands among its own items.
     pub base: Option<u32>,
     /// The names of its own blocks, which stand in the place of inherited ones.
     pub named: IndexSet<&'a [u8]>,
-    /// What its own blocks order.
+    /// What its own blocks order, and in front of that what it inherits where there is no base.
     pub own: Items<Order>,
     /// Ranks that all that it orders agrees with, where they are known: those of its base as long as they do.
     pub ranks: Option<Rc<Ranks>>,
