@@ -83,6 +83,10 @@ endclass
     + MODULE.format(type="D", calls="p.randomize() with { soft x == 3; };"),
     "a cyclic property": "class P;\nrandc bit [1:0] a; constraint c { a == 0; }\nendclass\n"
     + MODULE.format(type="P", calls="repeat (2) p.randomize();"),
+    "orders of a family": "class A;\nrand bit a, b; constraint c { solve a before b; } constraint e { solve a before b; }\nendclass\n"
+    "class B extends A;\nconstraint c { solve b before a; } constraint e {}\nendclass\n"
+    "class D extends B;\nconstraint f { solve b before a; }\nendclass\nclass E extends A;\nconstraint g { solve a before b; }\nendclass\n"
+    + MODULE.format(type="D", calls="p.randomize();"),
     "an answer 0": "class P;\nrand bit a, b, c; constraint u { unique {a, b, c}; }\nendclass\n"
     + MODULE.format(type="P", calls="p.randomize();"),
 }

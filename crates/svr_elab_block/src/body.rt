@@ -289,7 +289,8 @@ pub fn class_bodies<'a>(
     requires loops { length names.now.loops.now < 2 ^ 32 }
     requires members { MembersFit (space_of names.now) }
     requires fits { BodiesFit (length names.now.loops.now) (map class_tree classes.now) }
-    ensures { IfOk result (λ s. bodies_part (names_of names.now.names) s ≡ spec.bodies first_one (space_of names.now) (spec.no_bodies first_one) 0 (map class_tree classes.now)) }
+    ensures value { IfOk result (λ s. bodies_part (names_of names.now.names) s ≡ spec.bodies first_one (space_of names.now) (spec.no_bodies first_one) 0 (map class_tree classes.now)) }
+    ensures ranks { IfOk result (λ s. AreRanked (names_of names.now.names) s.orders) }
 {
     let families = family_ranks(alloc, classes, names)?;
     let mut bodies = BodiesPart::none(alloc);

@@ -25,4 +25,4 @@ pub run-requires-clause-fits : goal.run-requires-clause-fits
 run-requires-clause-fits c = stmts_there _ c.args.script.now.unit.stmts c.requires.loops c.requires.fits.the_unit.all_stmts
 
 pub returns-clause-bodies : goal.returns-clause-bodies
-returns-clause-bodies c = bodies_are (space_of c.args.names.now) (bodies_part (names_of c.args.names.now.names) c.in_ok-bodies.bodies) _ c.args.script.now.classes c.in_ok-bodies.ensures c.as_slice.ensures
+returns-clause-bodies c = bodies_are (space_of c.args.names.now) (bodies_part (names_of c.args.names.now.names) c.in_ok-bodies.bodies) _ c.args.script.now.classes c.in_ok-bodies.ensures.value c.as_slice.ensures
